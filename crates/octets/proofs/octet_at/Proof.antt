@@ -1,0 +1,18 @@
+-- `octet_at`: the octet, or 0 past the end. Assumes nothing.
+use mathlib.Core.Path.{sym}
+use borrow.Author.Needs.{needs}
+use Rattle.octets.proofs.Numbers.{number-one, number-past}
+use Rattle.octets.proofs.octet_at.Statement.{statement}
+use Rattle.octets.proofs.octet_at.Tie as tie
+
+shared-slice-read-result : tie.Need-shared-slice-read-result
+shared-slice-read-result c = search needs
+
+returns : tie.Need-returns
+returns c = sym (number-one _ _)
+
+returns-2 : tie.Need-returns-2
+returns-2 c = sym (number-past 1 _ _ (c .if1 .left))
+
+pub octet-at-spec : {M : Type 1} → statement M
+octet-at-spec = tie.close (tie.spec shared-slice-read-result returns returns-2)

@@ -1,0 +1,47 @@
+-- `u64_at`: the number of 8 octets is that of its two halves. Assumes nothing.
+use mathlib.Core.Path.{sym}
+use borrow.Author.Needs.{needs}
+use Rattle.octets.proofs.Numbers.{number-past, number-halves}
+use Rattle.octets.proofs.u64_at.Statement.{statement}
+use Rattle.octets.proofs.u64_at.Tie as tie
+
+returns : tie.Need-returns
+returns c = sym (number-past 8 _ _ (c .if1 .taken))
+
+u32-at-requires : tie.Need-u32-at-requires
+u32-at-requires c κs = search needs
+
+cast-result : tie.Need-cast-result
+cast-result c = search needs
+
+mul-result : tie.Need-mul-result
+mul-result c = search needs
+
+add-u32-at : tie.Need-add-u32-at
+add-u32-at c = search needs
+
+u32-at-requires-2 : tie.Need-u32-at-requires-2
+u32-at-requires-2 c κs = search needs
+
+cast-result-2 : tie.Need-cast-result-2
+cast-result-2 c = search needs
+
+add-result : tie.Need-add-result
+add-result c = search needs
+
+returns-2 : tie.Need-returns-2
+returns-2 c = number-halves 4 _ _ _ _ (c .before .u32-at .ensures) (c .u32-at2 .ensures)
+
+pub u64-at-spec : {M : Type 1} → statement M
+u64-at-spec =
+    tie.close
+    (tie.spec
+    returns
+    u32-at-requires
+    cast-result
+    mul-result
+    add-u32-at
+    u32-at-requires-2
+    cast-result-2
+    add-result
+    returns-2)

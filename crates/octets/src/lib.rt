@@ -1,0 +1,111 @@
+// Octets and the numbers they spell, the high octet first: reading and writing 2, 4 and 8 of them, the lesser of
+// two counts, and copying a run of octets to a place in another. Every function is total: an octet past the end
+// reads as 0, and what has no room is not written at all.
+ghost use mathlib.Core.Path.{_≡_};
+ghost use Prim.Native.Nat.{_+_, min};
+ghost use lib.ListN.{length};
+ghost use lib.Dec.{leb};
+ghost use Rattle.octets.specs.Numbers.{numberAt, octetsOf};
+ghost use Rattle.octets.specs.Runs.{put};
+
+// The lesser of two counts.
+pub fn least(a: usize, b: usize) -> usize
+    ensures { λ r. ⌜ r ≡ min a b ⌝ }
+{
+    if a <= b { a } else { b }
+}
+
+// Whether a run of `size` octets fits at a place in a run of `len`.
+pub fn has_room(len: usize, at: usize, size: usize) -> bool
+    ensures { λ r. ⌜ r ≡ leb (at + size) len ⌝ }
+{
+    if len < size {
+        return false;
+    }
+    at <= len - size
+}
+
+// The octet at a place.
+pub fn octet_at(s: &[u8], at: usize) -> u8
+    ensures { λ r. ⌜ r ≡ numberAt 1 (now (s .entry)) at ⌝ }
+{
+    if at < s.len() { s[at] } else { 0 }
+}
+
+// The number of the two octets from a place on.
+pub fn u16_at(s: &[u8], at: usize) -> u16
+    ensures { λ r. ⌜ r ≡ numberAt 2 (now (s .entry)) at ⌝ }
+{
+    if s.len() <= at {
+        return 0;
+    }
+    (octet_at(s, at) as u16) * 256 + (octet_at(s, at + 1) as u16)
+}
+
+// The number of the four octets from a place on.
+pub fn u32_at(s: &[u8], at: usize) -> u32
+    ensures { λ r. ⌜ r ≡ numberAt 4 (now (s .entry)) at ⌝ }
+{
+    if s.len() <= at {
+        return 0;
+    }
+    (u16_at(s, at) as u32) * 65536 + (u16_at(s, at + 2) as u32)
+}
+
+// The number of the eight octets from a place on.
+pub fn u64_at(s: &[u8], at: usize) -> u64
+    ensures { λ r. ⌜ r ≡ numberAt 8 (now (s .entry)) at ⌝ }
+{
+    if s.len() <= at {
+        return 0;
+    }
+    (u32_at(s, at) as u64) * 4294967296 + (u32_at(s, at + 4) as u64)
+}
+
+// The two octets of x laid from a place on.
+pub fn put_u16(to: &mut [u8], at: usize, x: u16)
+    ensures { λ r. ⌜ now (to .exit) ≡ put (now (to .entry)) at (octetsOf 2 x) ⌝ }
+{
+    if !has_room(to.len(), at, 2) {
+        return;
+    }
+    to[at] = (x / 256) as u8;
+    to[at + 1] = (x % 256) as u8;
+}
+
+// The four octets of x laid from a place on.
+pub fn put_u32(to: &mut [u8], at: usize, x: u32)
+    ensures { λ r. ⌜ now (to .exit) ≡ put (now (to .entry)) at (octetsOf 4 x) ⌝ }
+{
+    if !has_room(to.len(), at, 4) {
+        return;
+    }
+    put_u16(to, at, (x / 65536) as u16);
+    put_u16(to, at + 2, (x % 65536) as u16);
+}
+
+// The eight octets of x laid from a place on.
+pub fn put_u64(to: &mut [u8], at: usize, x: u64)
+    ensures { λ r. ⌜ now (to .exit) ≡ put (now (to .entry)) at (octetsOf 8 x) ⌝ }
+{
+    if !has_room(to.len(), at, 8) {
+        return;
+    }
+    put_u32(to, at, (x / 4294967296) as u32);
+    put_u32(to, at + 4, (x % 4294967296) as u32);
+}
+
+// A whole run copied to a place in another.
+pub fn copy(from: &[u8], to: &mut [u8], at: usize)
+    ensures { λ r. ⌜ now (to .exit) ≡ put (now (to .entry)) at (now (from .entry)) ⌝ }
+{
+    let n = from.len();
+    if !has_room(to.len(), at, n) {
+        return;
+    }
+    let mut i = 0;
+    while i < n {
+        to[at + i] = from[i];
+        i += 1;
+    }
+}
