@@ -3,7 +3,7 @@
 // reads as 0, and what has no room is not written at all.
 ghost use mathlib.Core.Path.{_≡_};
 ghost use Prim.Native.Nat.{_+_, min};
-ghost use lib.ListN.{length};
+ghost use lib.ListN.{getD};
 ghost use lib.Dec.{leb};
 ghost use Rattle.octets.specs.Numbers.{numberAt, octetsOf};
 ghost use Rattle.octets.specs.Runs.{put};
@@ -27,7 +27,7 @@ pub fn has_room(len: usize, at: usize, size: usize) -> bool
 
 // The octet at a place.
 pub fn octet_at(s: &[u8], at: usize) -> u8
-    ensures { λ r. ⌜ r ≡ numberAt 1 (now (s .entry)) at ⌝ }
+    ensures { λ r. ⌜ r ≡ getD (now (s .entry)) at 0 ⌝ }
 {
     if at < s.len() { s[at] } else { 0 }
 }

@@ -1,7 +1,7 @@
 -- `octet_at`: the octet, or 0 past the end. Assumes nothing.
 use mathlib.Core.Path.{sym}
 use borrow.Author.Needs.{needs}
-use Rattle.octets.proofs.Numbers.{number-one, number-past}
+use lib.ListN.{List·getD-eq-default}
 use Rattle.octets.proofs.octet_at.Statement.{statement}
 use Rattle.octets.proofs.octet_at.Tie as tie
 
@@ -9,10 +9,10 @@ shared-slice-read-result : tie.Need-shared-slice-read-result
 shared-slice-read-result c = search needs
 
 returns : tie.Need-returns
-returns c = sym (number-one _ _)
+returns c = search needs
 
 returns-2 : tie.Need-returns-2
-returns-2 c = sym (number-past 1 _ _ (c .if1 .left))
+returns-2 c = sym (List·getD-eq-default (c .before .args .s .now) 0 (c .if1 .left))
 
 pub octet-at-spec : {M : Type 1} → statement M
 octet-at-spec = tie.close (tie.spec shared-slice-read-result returns returns-2)

@@ -1,7 +1,7 @@
 -- `u16_at`: the number of 2 octets is that of its two halves. Assumes nothing.
-use mathlib.Core.Path.{sym}
+use mathlib.Core.Path.{sym, _∙_}
 use borrow.Author.Needs.{needs}
-use Rattle.octets.proofs.Numbers.{number-past, number-halves}
+use Rattle.octets.proofs.Numbers.{number-one, number-past, number-halves}
 use Rattle.octets.proofs.u16_at.Statement.{statement}
 use Rattle.octets.proofs.u16_at.Tie as tie
 
@@ -30,7 +30,8 @@ add-result : tie.Need-add-result
 add-result c = search needs
 
 returns-2 : tie.Need-returns-2
-returns-2 c = number-halves 1 _ _ _ _ (c .before .octet-at .ensures) (c .octet-at2 .ensures)
+returns-2 c =
+    number-halves 1 _ _ _ _ (c .before .octet-at .ensures ∙ sym (number-one _ _)) (c .octet-at2 .ensures ∙ sym (number-one _ _))
 
 pub u16-at-spec : {M : Type 1} → statement M
 u16-at-spec =

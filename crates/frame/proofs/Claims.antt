@@ -1,0 +1,39 @@
+-- What holds of frame reading for any octets: its codes, what a refusal gives, and the payload's length. Assumes nothing.
+use Prim.Native.Nat.{ℕ, _+_, _-_, _≤_}
+use mathlib.Core.Path.{_≡_, refl, sym, ap, _∙_}
+use mathlib.Core.List.{List, []}
+use mathlib.Core.Logic.{inl, inr}
+use native.Mathlib.Nat.{zero-add}
+use native.Mathlib.Omega.{arith}
+use lib.ListN.{length, take, drop, length-drop}
+use lib.Seq.{length-take-le}
+use Rattle.frame.specs.Frame.{lengthCode, headerOf, payloadOf, payloadPlace, sequencePlace}
+use Rattle.frame.specs.Claims.{ReadingAnswers, ReadingRefused, PayloadLength}
+use Rattle.frame.specs.declared.Header.{Header}
+use Rattle.frame.proofs.Frame.{by-length, within, header-code, header-refused, payload-refused, payload-read}
+
+pub reading-answers : ReadingAnswers
+reading-answers f =
+    by-length (length f)
+    (λ _ e. inr (inl (header-code f ∙ e)))
+    (λ _ _ e. inr (inr (header-code f ∙ e)))
+    (λ _ _ e. inl (header-code f ∙ e))
+
+pub reading-refused : ReadingRefused
+reading-refused f place h =
+    let k : lengthCode (length f) ≡ 0 → ⊥ = λ z. h (header-code f ∙ z) in
+    let e = header-refused f (lengthCode (length f)) refl k in
+    let p = payload-refused f (lengthCode (length f)) refl place k in (
+      ap (λ (x : Header). x .link) (sym e),
+      ap (λ (x : Header). x .sequence) (sym e),
+      sym (p .0),
+      sym (p .1) ∙ ap (λ (o : ℕ). (place .0, o)) (zero-add (place .1)),
+    )
+
+pub payload-length : PayloadLength
+payload-length f z =
+    let c : lengthCode (length f) ≡ 0 = sym (header-code f) ∙ z in
+    let w = within (length f) c in
+    let r : sequencePlace f - 14 ≤ length (drop 14 f) = simp length-drop (omega arith) in
+    ap (λ (xs : List ℕ). length xs + 19) (sym (payload-read f (lengthCode (length f)) refl (0, 0) c .0))
+    ∙ omega (arith, length-take-le (sequencePlace f - 14) (drop 14 f) r)

@@ -1,0 +1,44 @@
+-- What the octets of a frame say (document 01, "The frame").
+use Prim.Native.Nat.{ℕ, _+_, _-_}
+use mathlib.Core.List.{List, []}
+use lib.ListN.{length, getD, take, drop}
+use lib.Dec.{ltb, eqb}
+use Rattle.octets.specs.Choice.{if_then_else_}
+use Rattle.octets.specs.Numbers.{numberAt}
+use Rattle.frame.specs.Limits.{smallestFrame, largestFrame}
+use Rattle.frame.specs.declared.Header.{Header}
+
+-- codes 1 and 2 ("Codes, in order of checking"), 0 where neither fits
+unfoldable pub lengthCode : ℕ → ℕ
+lengthCode n = if ltb n smallestFrame then 1 else if ltb largestFrame n then 2 else 0
+
+-- octets 0 to 3
+abbrev pub constantField : List ℕ → ℕ
+constantField f = numberAt 4 f 0
+
+-- octets 4 and 5
+abbrev pub linkNumber : List ℕ → ℕ
+linkNumber f = numberAt 2 f 4
+
+-- the sequence number is the fifth octet from the end
+abbrev pub sequencePlace : List ℕ → ℕ
+sequencePlace f = length f - 5
+
+abbrev pub sequenceNumber : List ℕ → ℕ
+sequenceNumber f = getD f (sequencePlace f) 0
+
+-- frame reading: the code, the link and the sequence number; zeros after a refusal
+unfoldable pub headerOf : List ℕ → Header
+headerOf f =
+    if eqb (lengthCode (length f)) 0
+    then record { code = 0; link = linkNumber f; sequence = sequenceNumber f }
+    else record { code = lengthCode (length f); link = 0; sequence = 0 }
+
+-- the payload: the octets from 14 up to but not including the sequence number; none after a refusal
+unfoldable pub payloadOf : List ℕ → List ℕ
+payloadOf f = if eqb (lengthCode (length f)) 0 then take (sequencePlace f - 14) (drop 14 f) else []
+
+-- where the payload stands, as a block of memory and an offset in it: octet 14 of the frame, or the frame's own start
+-- after a refusal
+unfoldable pub payloadPlace : ℕ × ℕ → List ℕ → ℕ × ℕ
+payloadPlace p f = if eqb (lengthCode (length f)) 0 then (p .0, 14 + p .1) else p
