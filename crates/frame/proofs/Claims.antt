@@ -1,8 +1,7 @@
 -- What holds of frame reading for any octets: its codes, what a refusal gives, and the payload's length. Assumes nothing.
 use Prim.Native.Nat.{ℕ, _+_, _-_, _≤_}
 use mathlib.Core.Path.{_≡_, refl, sym, ap, _∙_}
-use mathlib.Core.List.{List, []}
-use mathlib.Core.Logic.{inl, inr}
+use mathlib.Core.List.{List, [], List·Memᴰ·head, List·Memᴰ·tail}
 use native.Mathlib.Nat.{zero-add}
 use native.Mathlib.Omega.{arith}
 use lib.ListN.{length, take, drop, length-drop}
@@ -15,9 +14,9 @@ use Rattle.frame.proofs.Frame.{by-length, within, header-code, header-r
 pub reading-answers : ReadingAnswers
 reading-answers f =
     by-length (length f)
-    (λ _ e. inr (inl (header-code f ∙ e)))
-    (λ _ _ e. inr (inr (header-code f ∙ e)))
-    (λ _ _ e. inl (header-code f ∙ e))
+    (λ _ e. List·Memᴰ·tail (List·Memᴰ·head (header-code f ∙ e)))
+    (λ _ _ e. List·Memᴰ·tail (List·Memᴰ·tail (List·Memᴰ·head (header-code f ∙ e))))
+    (λ _ _ e. List·Memᴰ·head (header-code f ∙ e))
 
 pub reading-refused : ReadingRefused
 reading-refused f place h =

@@ -1,14 +1,13 @@
 -- What holds of frame reading for any octets whatsoever; proved in proofs/Claims.antt.
 use Prim.Native.Nat.{ℕ, _+_}
-use mathlib.Core.List.{List, []}
-use mathlib.Core.Logic.{_⊎_}
+use mathlib.Core.List.{List, [], _∷_, List·Memᴰ}
 use mathlib.Core.Path.{_≡_}
 use lib.ListN.{length}
 use Rattle.frame.specs.Frame.{headerOf, payloadOf, payloadPlace}
 
 -- demand 1: the code is one that document 01 names for frame reading
 abbrev pub ReadingAnswers : Type 0
-ReadingAnswers = (f : List ℕ) → (headerOf f .code ≡ 0) ⊎ ((headerOf f .code ≡ 1) ⊎ (headerOf f .code ≡ 2))
+ReadingAnswers = (f : List ℕ) → List·Memᴰ (headerOf f .code) (0 ∷ 1 ∷ 2 ∷ [])
 
 -- a refused frame: zeros, and the empty part at its own start
 abbrev pub ReadingRefused : Type 0

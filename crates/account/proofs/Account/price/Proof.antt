@@ -1,0 +1,28 @@
+-- `price`: the product fits by the limits. Assumes nothing.
+use mathlib.Core.Path.{_≡_, refl, sym, _∙_}
+use native.Mathlib.Omega.{arith}
+use Rattle.account.proofs.Limits.{limits, cost-high, product-is}
+use Rattle.account.specs.Account.{termsOf}
+use borrow.Author.Needs.{needs}
+use Rattle.account.proofs.Account.price.Statement.{statement}
+use Rattle.account.proofs.Account.price.Tie as tie
+
+cast-charged : tie.Need-cast-charged
+cast-charged c = search needs
+
+charged-requires : tie.Need-charged-requires
+charged-requires c κs = search needs
+
+bag-of-requires : tie.Need-bag-of-requires
+bag-of-requires c κs = limits _ (c .before .pre .0) .k-high
+
+mul-result : tie.Need-mul-result
+mul-result c =
+    let l = limits (termsOf (c .before .before .args .self)) (c .before .before .pre .0) in
+    record { fits = rw (product-is _ _ _ _ (c .before .charged .ensures) (c .bag-of .ensures)) (omega (arith, cost-high _ l (c .before .before .args .octets) (c .before .before .pre .1))) }
+
+returns : tie.Need-returns
+returns c = product-is _ _ _ _ (c .before .charged .ensures) (c .bag-of .ensures)
+
+pub price-spec : {M : Type 1} → statement M
+price-spec = tie.close (tie.spec cast-charged charged-requires bag-of-requires mul-result returns)

@@ -1,0 +1,118 @@
+-- What holds of the policing step and the methods for any account. Assumes nothing.
+use Prim.Native.Nat.{ℕ, _-_, _≤_}
+use mathlib.Core.Bool.{true, cond}
+use mathlib.Core.Logic.{_⊎_, ⊎-elim}
+use mathlib.Core.Option.{Option, none, some}
+use mathlib.Core.Path.{_≡_, refl, sym, ap, _∙_}
+use mathlib.Core.List.{List, [], _∷_, List·Memᴰ, List·Memᴰ·head, List·Memᴰ·tail}
+use native.Mathlib.Omega.{arith}
+use lib.Dec.{eqb}
+use Rattle.frame.specs.Frame.{lengthCode}
+use Rattle.frame.proofs.Frame.{by-length}
+use Rattle.account.specs.Terms.{Terms, inLimits, capacity, cost}
+use Rattle.account.specs.Account.{termsOf, withCredit, valid, creditAt, costOf, toppedUp, debited}
+use Rattle.account.specs.Step.{Told, told, Stepped, step, policed}
+use Rattle.account.specs.Claims.{CapacityLargest, ToldApart, StepAnswers, RefusedStepKeeps, ShortStepTopsUp}
+use Rattle.account.specs.Claims.{ForwardedStepTakesCost, StepIsTopUpAndDebit}
+use Rattle.account.specs.declared.Account.{Account}
+use Rattle.account.specs.declared.Outcome.{Outcome}
+use Rattle.account.specs.declared.Outcome.the-variants.{Forwarded, Short, Late, Refused}
+use Rattle.account.proofs.Limits.{limits, capacity-high}
+use Rattle.account.proofs.Methods.{valid-limits, valid-by, credit-at-high, top-up-valid, cost-valid, debit-enough, debit-short}
+use Rattle.account.proofs.Step.{by-step}
+
+pub capacity-largest : CapacityLargest
+capacity-largest p ok = capacity-high p (limits p ok)
+
+-- an answer, from what it tells
+heard : Told → Outcome
+heard w = from (w .code) (w .credit)
+  where
+    from : ℕ → Option ℕ → Outcome
+    from n none = Refused n
+    from n (some c) = cond (eqb n 0) (Forwarded c) (cond (eqb n 9) (Short c) (Late c))
+
+heard-told : (o : Outcome) → heard (told o) ≡ o
+unfolding heard
+heard-told (Forwarded c) = refl
+heard-told (Short c) = refl
+heard-told (Late c) = refl
+heard-told (Refused n) = refl
+
+pub told-apart : ToldApart
+told-apart o q e = sym (heard-told o) ∙ ap heard e ∙ heard-told q
+
+-- a code that refuses a length is 1 or 2
+length-refuses : (n : ℕ) → (lengthCode n ≡ 0 → ⊥) → (P : ℕ → Type 0) → P 1 → P 2 → P (lengthCode n)
+length-refuses n h P f g =
+    by-length n
+    (λ _ e. rw e f)
+    (λ _ _ e. rw e g)
+    (λ _ _ e. absurd (h e))
+
+pub step-answers : StepAnswers
+step-answers a n t =
+    by-step a n t (λ q. List·Memᴰ (q .says .code) (0 ∷ 1 ∷ 2 ∷ 8 ∷ 9 ∷ 10 ∷ []))
+    (λ m. length-refuses n m (λ x. List·Memᴰ x (0 ∷ 1 ∷ 2 ∷ 8 ∷ 9 ∷ 10 ∷ []))
+    (List·Memᴰ·tail (List·Memᴰ·head refl))
+    (List·Memᴰ·tail (List·Memᴰ·tail (List·Memᴰ·head refl))))
+    (λ _ _. List·Memᴰ·tail (List·Memᴰ·tail (List·Memᴰ·tail (List·Memᴰ·tail (List·Memᴰ·tail (List·Memᴰ·head refl))))))
+    (λ _ _ _. List·Memᴰ·tail (List·Memᴰ·tail (List·Memᴰ·tail (List·Memᴰ·head refl))))
+    (λ _ _ _ _. List·Memᴰ·tail (List·Memᴰ·tail (List·Memᴰ·tail (List·Memᴰ·tail (List·Memᴰ·head refl)))))
+    (λ _ _ _ _. List·Memᴰ·head refl)
+
+pub refused-step-keeps : RefusedStepKeeps
+refused-step-keeps a n t =
+    by-step a n t (λ q. (q .says .code ≡ 0 → ⊥) → (q .says .code ≡ 9 → ⊥) → q .account ≡ a)
+    (λ _ _ _. refl)
+    (λ _ _ _ _. refl)
+    (λ _ _ _ _ _. refl)
+    (λ _ _ _ _ _ nine. absurd (nine refl))
+    (λ _ _ _ _ zero _. absurd (zero refl))
+
+pub short-step-tops-up : ShortStepTopsUp
+short-step-tops-up a n t =
+    by-step a n t (λ q. q .says .code ≡ 9 → (q .account ≡ withCredit a (creditAt a t) t) × (q .says .credit ≡ some (creditAt a t)))
+    (λ m e. absurd (length-refuses n m (λ x. x ≡ 9 → ⊥) (λ f. omega arith) (λ f. omega arith) e))
+    (λ _ _ e. absurd (omega arith))
+    (λ _ _ _ e. absurd (omega arith))
+    (λ _ _ _ _ _. (refl, refl))
+    (λ _ _ _ _ e. absurd (omega arith))
+
+pub forwarded-step-takes-cost : ForwardedStepTakesCost
+forwarded-step-takes-cost a n t =
+    by-step a n t (λ q. q .says .code ≡ 0
+    → (q .account ≡ withCredit a (creditAt a t - cost (termsOf a) n) t)
+    × (q .says .credit ≡ some (creditAt a t - cost (termsOf a) n))
+    × (cost (termsOf a) n ≤ creditAt a t))
+    (λ m e. absurd (m e))
+    (λ _ _ e. absurd (omega arith))
+    (λ _ _ _ e. absurd (omega arith))
+    (λ _ _ _ _ e. absurd (omega arith))
+    (λ _ _ _ l _. (refl, refl, l))
+
+-- ---- a step that reaches the account is a top-up and then a debit
+module _ (a : Account) (n t : ℕ) (z : lengthCode n ≡ 0) (v : valid a ≡ true) (h : a .last ≤ t) where
+  abbrev topped : Account
+  topped = withCredit a (creditAt a t) t
+
+  topped-up : debited topped n ≡ debited (toppedUp a t) n
+  topped-up = ap (λ (b : Account). debited b n) (top-up-valid a t v h)
+
+  cost-is : cost (termsOf a) n ≡ costOf topped n
+  cost-is = cost-valid topped n z (valid-by topped (valid-limits a v) (credit-at-high a t))
+
+-- another code is neither 0 nor 9
+neither : (x : ℕ) {P : Type 0} → (x ≡ 0 → ⊥) → (x ≡ 9 → ⊥) → (x ≡ 0) ⊎ (x ≡ 9) → P
+neither x f g e = absurd (⊎-elim f g e)
+
+pub step-is-top-up-and-debit : StepIsTopUpAndDebit
+step-is-top-up-and-debit a n t =
+    by-step a n t (λ q. (q .says .code ≡ 0) ⊎ (q .says .code ≡ 9) → q .account ≡ debited (toppedUp a t) n)
+    (λ m. length-refuses n m (λ x. (x ≡ 0) ⊎ (x ≡ 9) → a ≡ debited (toppedUp a t) n)
+    (neither 1 (λ e. omega arith) (λ e. omega arith))
+    (neither 2 (λ e. omega arith) (λ e. omega arith)))
+    (λ _ _. neither 10 (λ e. omega arith) (λ e. omega arith))
+    (λ _ _ _. neither 8 (λ e. omega arith) (λ e. omega arith))
+    (λ z v h l _. debit-short (topped a n t z v h) n _ (cost-is a n t z v h) l ∙ topped-up a n t z v h)
+    (λ z v h l _. debit-enough (topped a n t z v h) n _ (cost-is a n t z v h) l ∙ topped-up a n t z v h)

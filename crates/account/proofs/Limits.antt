@@ -1,0 +1,132 @@
+-- What the limits of an account's values say of its products: every one fits 32 bits. The products are bounded once, over
+-- whatever octets are charged. Assumes nothing.
+use Prim.Native.Nat.{ℕ, _+_, _*_, _^_, _≤_, _<_, min}
+use mathlib.Core.Bool.{Bool, true, false, _&&_}
+use mathlib.Core.Path.{_≡_, refl, sym, ap}
+use native.Mathlib.Nat.{mul-le-mul, mul-le-mul-left, le-trans, one-le-pow, one-le-mul}
+use native.Mathlib.Omega.{arith}
+use lib.Dec.{leb, eqb}
+use lib.Pow.{pow-mono}
+use borrow.Author.Tests.{leb-true, lt-leb, le-leb, eq-eqb, ne-eqb}
+use Rattle.octets.proofs.Tests.{split, both}
+use Rattle.frame.specs.Limits.{smallestFrame, largestFrame}
+use Rattle.account.specs.Terms.{Terms, largestK, largestJitter, byteMode, frameMode, inLimits, bag, rate, capacity, charged, cost}
+
+-- ---- the limits, one by one
+pub record Limits (p : Terms) : Type 0 where
+  pub smax-low : smallestFrame ≤ p .smax
+  pub smax-high : p .smax ≤ largestFrame
+  pub k-high : p .k ≤ largestK
+  pub jitter-high : p .jitter ≤ largestJitter
+  pub mode-high : p .mode ≤ frameMode
+
+pub limits : (p : Terms) → inLimits p ≡ true → Limits p
+unfolding inLimits
+limits p e =
+    let d = both _ (leb (p .mode) frameMode) e in
+    let f = both _ (leb (p .jitter) largestJitter) (d .0) in
+    let g = both _ (leb (p .k) largestK) (f .0) in
+    let h = both (leb smallestFrame (p .smax)) (leb (p .smax) largestFrame) (g .0) in
+    record {
+      smax-low = leb-true _ _ (h .0);
+      smax-high = leb-true _ _ (h .1);
+      k-high = leb-true _ _ (g .1);
+      jitter-high = leb-true _ _ (f .1);
+      mode-high = leb-true _ _ (d .1);
+    }
+
+-- the test, as the code makes it
+module _ (p : Terms) where
+  pub smax-below : p .smax < smallestFrame → false ≡ inLimits p
+  unfolding inLimits
+  smax-below h = simp (lt-leb _ _ h)
+
+  module _ (h1 : smallestFrame ≤ p .smax) where
+    pub smax-above : largestFrame < p .smax → false ≡ inLimits p
+    unfolding inLimits
+    smax-above h = simp (le-leb _ _ h1, lt-leb _ _ h)
+
+    module _ (h2 : p .smax ≤ largestFrame) where
+      pub k-above : largestK < p .k → false ≡ inLimits p
+      unfolding inLimits
+      k-above h = simp (le-leb _ _ h1, le-leb _ _ h2, lt-leb _ _ h)
+
+      module _ (h3 : p .k ≤ largestK) where
+        pub jitter-above : largestJitter < p .jitter → false ≡ inLimits p
+        unfolding inLimits
+        jitter-above h = simp (le-leb _ _ h1, le-leb _ _ h2, le-leb _ _ h3, lt-leb _ _ h)
+
+        pub mode-tested : p .jitter ≤ largestJitter → leb (p .mode) frameMode ≡ inLimits p
+        unfolding inLimits
+        mode-tested h = simp (le-leb _ _ h1, le-leb _ _ h2, le-leb _ _ h3, le-leb _ _ h)
+
+-- ---- bounds
+abbrev longestBag : ℕ
+longestBag = 128000
+
+abbrev longestWindow : ℕ
+longestWindow = 138000
+
+abbrev pub largestProduct : ℕ
+largestProduct = 209484000
+
+pub bag-high : (k : ℕ) → k ≤ largestK → bag k ≤ longestBag
+unfolding bag
+bag-high k h = mul-le-mul-left 1000 (pow-mono h)
+
+-- the charged octets, or the rate, times a part of the window
+pub product-high : (x w : ℕ) → x ≤ largestFrame → w ≤ longestWindow → x * w ≤ largestProduct
+product-high x w h k = mul-le-mul h k
+
+module _ (p : Terms) (l : Limits p) where
+  pub rate-high : rate p ≤ largestFrame
+  unfolding rate
+  rate-high = l .smax-high
+
+  rate-low : 1 ≤ rate p
+  unfolding rate
+  rate-low = le-trans (omega arith) (l .smax-low)
+
+  pub charged-high : (n : ℕ) → n ≤ largestFrame → charged p n ≤ largestFrame
+  unfolding charged
+  charged-high n h =
+      split (eqb (p .mode) byteMode)
+      (λ e. simp e h)
+      (λ e. simp e rate-high)
+
+  pub window-high : bag (p .k) + p .jitter ≤ longestWindow
+  window-high = let b = bag-high (p .k) (l .k-high) in let j = l .jitter-high in omega arith
+
+  pub capacity-high : capacity p ≤ largestProduct
+  unfolding capacity
+  capacity-high = product-high (rate p) (bag (p .k) + p .jitter) rate-high window-high
+
+  pub capacity-low : 1 ≤ capacity p
+  unfolding capacity bag
+  capacity-low =
+      let b : 1 ≤ 1000 * 2 ^ p .k = one-le-mul {a = 1000} {b = 2 ^ p .k} (omega arith) (one-le-pow (p .k) 2 (omega arith)) in
+      one-le-mul rate-low (omega arith)
+
+  pub cost-high : (n : ℕ) → n ≤ largestFrame → cost p n ≤ largestProduct
+  unfolding cost
+  cost-high n h =
+      let b = bag-high (p .k) (l .k-high) in
+      product-high (charged p n) (bag (p .k)) (charged-high n h) (omega arith)
+
+-- ---- the charge, by mode
+pub charged-bytes : (p : Terms) (n : ℕ) → p .mode ≡ byteMode → n ≡ charged p n
+unfolding charged
+charged-bytes p n h = simp (eq-eqb _ _ h)
+
+pub charged-frames : (p : Terms) (n : ℕ) → (p .mode ≡ byteMode → ⊥) → rate p ≡ charged p n
+unfolding charged
+charged-frames p n h = simp (ne-eqb _ _ h)
+
+-- ---- the products, as the code takes them
+pub product-is : (p : Terms) (n x b : ℕ) → x ≡ charged p n → b ≡ bag (p .k) → x * b ≡ cost p n
+unfolding cost
+product-is p n x b e f = rw (e, f)
+
+pub full-is : (p : Terms) (r b : ℕ) → r ≡ rate p → b ≡ bag (p .k) → r * (b + p .jitter) ≡ capacity p
+unfolding capacity
+full-is p r b e f = rw (e, f)

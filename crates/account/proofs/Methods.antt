@@ -1,0 +1,116 @@
+-- Laws of an account's methods, case by case. Assumes nothing.
+use Prim.Native.Nat.{ℕ, _+_, _-_, _*_, _≤_, _<_, min}
+use mathlib.Core.Bool.{Bool, true, false, not, _&&_}
+use mathlib.Core.Path.{_≡_, refl, sym, ap, ap₂, _∙_}
+use native.Mathlib.Nat.{min-le-left}
+use native.Mathlib.Omega.{arith}
+use lib.Dec.{leb, eqb}
+use borrow.Author.Tests.{leb-true, le-leb, lt-leb, eq-eqb, ne-eqb, not-true, not-false}
+use Rattle.octets.proofs.Tests.{split, both}
+use Rattle.frame.specs.Frame.{lengthCode}
+use Rattle.account.specs.Terms.{Terms, inLimits, rate, capacity, cost}
+use Rattle.account.specs.Account.{termsOf, accountOf, withCredit, loaded, valid, creditAt, capacityOf, costOf, toppedUp, debited}
+use Rattle.account.specs.declared.Account.{Account}
+use Rattle.account.proofs.Limits.{Limits, limits, capacity-low}
+
+module _ (a : Account) where
+  -- ---- a valid account
+  pub valid-limits : valid a ≡ true → inLimits (termsOf a) ≡ true
+  unfolding valid
+  valid-limits e = both (inLimits (termsOf a)) (leb (a .credit) (capacity (termsOf a))) e .0
+
+  pub valid-by : inLimits (termsOf a) ≡ true → a .credit ≤ capacity (termsOf a) → valid a ≡ true
+  unfolding valid
+  valid-by e h = ap₂ _&&_ e (le-leb _ _ h)
+
+  -- ---- capacity: by the limits and the credit
+  capacity-not : valid a ≡ false → 0 ≡ capacityOf a
+  unfolding capacityOf
+  capacity-not v = simp v
+
+  capacity-is : valid a ≡ true → capacity (termsOf a) ≡ capacityOf a
+  unfolding capacityOf
+  capacity-is v = simp v
+
+  module _ (r : Bool) (e : r ≡ inLimits (termsOf a)) where
+    pub out-of-limits : not r ≡ true → 0 ≡ capacityOf a
+    unfolding valid
+    out-of-limits h = capacity-not (ap (λ (b : Bool). b && leb (a .credit) (capacity (termsOf a))) (sym e ∙ not-true r h))
+
+    pub within-limits : not r ≡ false → inLimits (termsOf a) ≡ true
+    within-limits h = sym e ∙ not-false r h
+
+  module _ (e : inLimits (termsOf a) ≡ true) (full : ℕ) (f : full ≡ capacity (termsOf a)) where
+    pub credit-over : full < a .credit → 0 ≡ capacityOf a
+    unfolding valid
+    credit-over h = capacity-not (ap₂ _&&_ e (lt-leb (a .credit) (capacity (termsOf a)) (rw f at h)))
+
+    pub credit-within : a .credit ≤ full → full ≡ capacityOf a
+    credit-within h = f ∙ capacity-is (valid-by e (rw f at h))
+
+  -- ---- what the capacity's answer says
+  module _ (c : ℕ) (e : c ≡ capacityOf a) where
+    pub none-invalid : c ≡ 0 → valid a ≡ false
+    none-invalid z =
+        split (valid a)
+        (λ v.
+        let l = capacity-low (termsOf a) (limits (termsOf a) (valid-limits v)) in
+        let k = capacity-is v in
+        absurd (omega arith))
+        (λ v. v)
+
+    pub some-valid : (c ≡ 0 → ⊥) → valid a ≡ true
+    some-valid h =
+        split (valid a)
+        (λ v. v)
+        (λ v. absurd (h (e ∙ sym (capacity-not v))))
+
+    pub some-capacity : (c ≡ 0 → ⊥) → c ≡ capacity (termsOf a)
+    some-capacity h = e ∙ sym (capacity-is (some-valid h))
+
+  -- ---- the topped-up credit
+  pub credit-at : (t c r w : ℕ) → c ≡ capacity (termsOf a) → r ≡ rate (termsOf a) → w ≡ min c (a .credit + r * (t - a .last)) → w ≡ creditAt a t
+  unfolding creditAt
+  credit-at t c r w p q e = e ∙ ap₂ (λ (x y : ℕ). min x (a .credit + y * (t - a .last))) p q
+
+  pub credit-at-high : (t : ℕ) → creditAt a t ≤ capacity (termsOf a)
+  unfolding creditAt
+  credit-at-high t = min-le-left _ _
+
+  -- ---- top-up
+  module _ (t : ℕ) where
+    pub top-up-invalid : valid a ≡ false → a ≡ toppedUp a t
+    unfolding toppedUp
+    top-up-invalid v = simp v
+
+    pub top-up-late : valid a ≡ true → t < a .last → a ≡ toppedUp a t
+    unfolding toppedUp
+    top-up-late v h = simp (v, lt-leb _ _ h)
+
+    pub top-up-valid : valid a ≡ true → a .last ≤ t → withCredit a (creditAt a t) t ≡ toppedUp a t
+    unfolding toppedUp
+    top-up-valid v h = simp (v, le-leb _ _ h)
+
+  -- ---- cost and debit, by the code r of the length
+  module _ (n : ℕ) where
+    pub cost-refused : (r : ℕ) → r ≡ lengthCode n → (r ≡ 0 → ⊥) → 0 ≡ costOf a n
+    unfolding costOf
+    cost-refused r e h = simp (ne-eqb (lengthCode n) 0 (rw e at h))
+
+    module _ (e : lengthCode n ≡ 0) where
+      pub cost-invalid : valid a ≡ false → 0 ≡ costOf a n
+      unfolding costOf
+      cost-invalid v = simp (eq-eqb _ _ e, v)
+
+      pub cost-valid : valid a ≡ true → cost (termsOf a) n ≡ costOf a n
+      unfolding costOf
+      cost-valid v = simp (eq-eqb _ _ e, v)
+
+    module _ (x : ℕ) (e : x ≡ costOf a n) where
+      pub debit-short : a .credit < x → a ≡ debited a n
+      unfolding debited
+      debit-short h = simp (← e, lt-leb _ _ h)
+
+      pub debit-enough : x ≤ a .credit → withCredit a (a .credit - x) (a .last) ≡ debited a n
+      unfolding debited
+      debit-enough h = simp (← e, le-leb _ _ h)

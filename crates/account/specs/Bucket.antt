@@ -1,0 +1,57 @@
+-- The rule of demand 3 for a bucket that refills at a steady rate: which frame passes, with no stored credit.
+use Prim.Native.Nat.{ℕ, suc, _+_, _-_, _≤_, _<_}
+use mathlib.Core.Bool.{Bool, true, _&&_}
+use mathlib.Core.Path.{_≡_}
+use mathlib.Core.List.{List, [], _∷_}
+use mathlib.Core.Logic.{_↔_}
+use lib.ListN.{length, getD, take}
+use lib.Dec.{leb}
+
+-- a frame that reached the bucket: its time, and its cost where it was forwarded, else 0
+pub record Reached : Type 0 where
+  pub at : ℕ
+  pub forwarded : ℕ
+
+abbrev pub reached : ℕ → ℕ → Reached
+reached t x = record { at = t; forwarded = x }
+
+-- ---- a list `past` of frames that reached the bucket has the newest first
+
+-- the time of the last frame to reach it; where there is none, no time is before it
+unfoldable pub lastTime : List Reached → ℕ
+lastTime [] = 0
+lastTime (r ∷ past) = r .at
+
+-- the rule for a frame at time t, from each frame of `past`: `spent` is the frame's own cost and what was forwarded
+-- after all of `past`; `allow` is the allowance of a time
+unfoldable pub holdsFrom : (ℕ → ℕ) → ℕ → ℕ → List Reached → Bool
+holdsFrom allow t spent [] = true
+holdsFrom allow t spent (r ∷ past) =
+    leb (spent + r .forwarded) (allow (t - r .at)) && holdsFrom allow t (spent + r .forwarded) past
+
+-- the rule for a frame that costs x: from itself, and from each frame that reached the bucket earlier
+unfoldable pub ruleHolds : (ℕ → ℕ) → List Reached → ℕ → ℕ → Bool
+ruleHolds allow past x t = leb x (allow 0) && holdsFrom allow t x past
+
+-- ---- the rule read literally (document 01, "The terms of demand 3")
+
+-- the sum of the costs forwarded
+unfoldable pub costs : List Reached → ℕ
+costs [] = 0
+costs (r ∷ past) = r .forwarded + costs past
+
+-- from itself: no cost was forwarded since, and no time has passed
+abbrev pub FromItself : (ℕ → ℕ) → ℕ → Type 0
+FromItself allow x = x ≤ allow 0
+
+-- from frame j of `past`, the newest being 0: the costs of frames j, .., 0 and its own are within the allowance of
+-- the time since
+abbrev pub FromFrame : (ℕ → ℕ) → ℕ → ℕ → List Reached → ℕ → Type 0
+FromFrame allow t x past j = costs (take (suc j) past) + x ≤ allow (t - getD past j (reached 0 0) .at)
+
+-- the test is that reading, for any allowance
+abbrev pub RuleRead : Type 0
+RuleRead =
+    (allow : ℕ → ℕ) (past : List Reached) (x t : ℕ)
+    → (ruleHolds allow past x t ≡ true)
+    ↔ (FromItself allow x × ((j : ℕ) → j < length past → FromFrame allow t x past j))

@@ -1,0 +1,50 @@
+-- What holds of the policing step and the methods for any account whatsoever; proved in proofs/Claims.antt.
+use Prim.Native.Nat.{ℕ, _-_, _≤_}
+use mathlib.Core.Bool.{true}
+use mathlib.Core.Logic.{_⊎_}
+use mathlib.Core.Option.{Option, some}
+use mathlib.Core.Path.{_≡_}
+use mathlib.Core.List.{List, [], _∷_, List·Memᴰ}
+use Rattle.account.specs.Terms.{Terms, inLimits, capacity, cost}
+use Rattle.account.specs.Account.{termsOf, withCredit, creditAt, toppedUp, debited}
+use Rattle.account.specs.Step.{Told, told, policed}
+use Rattle.account.specs.declared.Account.{Account}
+use Rattle.account.specs.declared.Outcome.{Outcome}
+
+-- the largest capacity
+abbrev pub CapacityLargest : Type 0
+CapacityLargest = (p : Terms) → inLimits p ≡ true → capacity p ≤ 209484000
+
+-- two answers that tell the same are the same
+abbrev pub ToldApart : Type 0
+ToldApart = (o q : Outcome) → told o ≡ told q → o ≡ q
+
+-- demand 1: the codes that a step can answer
+abbrev pub StepAnswers : Type 0
+StepAnswers = (a : Account) (n t : ℕ) → List·Memᴰ (policed a n t .says .code) (0 ∷ 1 ∷ 2 ∷ 8 ∷ 9 ∷ 10 ∷ [])
+
+-- a refusal other than 9 leaves the account as it was
+abbrev pub RefusedStepKeeps : Type 0
+RefusedStepKeeps =
+    (a : Account) (n t : ℕ) → (policed a n t .says .code ≡ 0 → ⊥) → (policed a n t .says .code ≡ 9 → ⊥)
+    → policed a n t .account ≡ a
+
+-- 9 brings the account to the frame's time, topped up, and tells the credit held
+abbrev pub ShortStepTopsUp : Type 0
+ShortStepTopsUp =
+    (a : Account) (n t : ℕ) → policed a n t .says .code ≡ 9
+    → (policed a n t .account ≡ withCredit a (creditAt a t) t) × (policed a n t .says .credit ≡ some (creditAt a t))
+
+-- 0 brings the account to the frame's time, topped up and less the cost, and tells the credit left
+abbrev pub ForwardedStepTakesCost : Type 0
+ForwardedStepTakesCost =
+    (a : Account) (n t : ℕ) → policed a n t .says .code ≡ 0
+    → (policed a n t .account ≡ withCredit a (creditAt a t - cost (termsOf a) n) t)
+    × (policed a n t .says .credit ≡ some (creditAt a t - cost (termsOf a) n))
+    × (cost (termsOf a) n ≤ creditAt a t)
+
+-- where the step answers 0 or 9 it leaves what a top-up and then a debit leave
+abbrev pub StepIsTopUpAndDebit : Type 0
+StepIsTopUpAndDebit =
+    (a : Account) (n t : ℕ) → (policed a n t .says .code ≡ 0) ⊎ (policed a n t .says .code ≡ 9)
+    → policed a n t .account ≡ debited (toppedUp a t) n

@@ -1,0 +1,232 @@
+// A bandwidth account and its policing step (ARINC 664P7 traffic policing). One credit unit is one octet divided by
+// the BAG in microseconds, so every sum is exact. All values are taken and given by value; `police_in_place` alone
+// changes a record that is lent.
+ghost use mathlib.Core.Path.{_≡_};
+ghost use mathlib.Core.Bool.{true};
+ghost use Prim.Native.Nat.{_+_, _*_, _≤_, min};
+ghost use Rattle.frame.specs.Limits.{largestFrame};
+ghost use Rattle.account.specs.Terms.{largestK, bag, inLimits, rate, charged, cost};
+ghost use Rattle.account.specs.Account.{termsOf, withCredit, capacityOf, costOf, toppedUp, debited};
+ghost use Rattle.account.specs.Step.{told, stepped, policed};
+
+const SHORTEST_BAG: u32 = 1000;
+
+const LARGEST_K: u8 = 7;
+
+const LARGEST_JITTER: u16 = 10000;
+
+const BYTE_MODE: u8 = 0;
+
+const FRAME_MODE: u8 = 1;
+
+// An elapsed time in which any rate but 0 adds more than a credit can hold.
+const LONG_ELAPSED: u64 = 4294967296;
+
+const UNSOUND: u8 = 10;
+
+pub struct Account {
+    pub smax: u16,
+    pub k: u8,
+    pub jitter: u16,
+    pub mode: u8,
+    pub credit: u32,
+    pub last: u64,
+}
+
+// The answer of a policing step: forwarded with the credit left, short or late with the credit held, or refused
+// with its code.
+pub enum Outcome {
+    Forwarded(u32),
+    Short(u32),
+    Late(u32),
+    Refused(u8),
+}
+
+pub struct Policed {
+    pub outcome: Outcome,
+    pub account: Account,
+}
+
+// The bandwidth allocation gap in microseconds.
+fn bag_of(k: u8) -> u32
+    requires { ⌜ k ≤ largestK ⌝ }
+    ensures { λ r. ⌜ r ≡ bag k ⌝ }
+{
+    SHORTEST_BAG << k
+}
+
+fn sooner(a: u64, b: u64) -> u64
+    ensures { λ r. ⌜ r ≡ min a b ⌝ }
+{
+    if a <= b { a } else { b }
+}
+
+// The credit after an elapsed time, at most the capacity. The time is cut to one that is long enough to fill any
+// account before the product is taken, so that nothing wraps.
+fn refilled(capacity: u32, credit: u32, rate: u32, elapsed: u64) -> u32
+    ensures { λ r. ⌜ r ≡ min capacity (credit + rate * elapsed) ⌝ }
+{
+    let counted = sooner(elapsed, LONG_ELAPSED);
+    let held = credit as u64 + rate as u64 * counted;
+    if capacity as u64 <= held {
+        return capacity;
+    }
+    held as u32
+}
+
+impl Account {
+    // Whether the configured values keep their limits.
+    pub fn in_limits(self) -> bool
+        ensures { λ r. ⌜ r ≡ inLimits (termsOf self) ⌝ }
+    {
+        if (self.smax as usize) < frame::SMALLEST_FRAME {
+            return false;
+        }
+        if frame::LARGEST_FRAME < self.smax as usize {
+            return false;
+        }
+        if LARGEST_K < self.k {
+            return false;
+        }
+        if LARGEST_JITTER < self.jitter {
+            return false;
+        }
+        self.mode <= FRAME_MODE
+    }
+
+    // What a microsecond adds to the credit.
+    fn rate(self) -> u32
+        ensures { λ r. ⌜ r ≡ rate (termsOf self) ⌝ }
+    {
+        self.smax as u32
+    }
+
+    // The octets that a frame is charged for, by mode.
+    fn charged(self, octets: u32) -> u32
+        ensures { λ r. ⌜ r ≡ charged (termsOf self) octets ⌝ }
+    {
+        if self.mode == BYTE_MODE {
+            octets
+        } else {
+            self.rate()
+        }
+    }
+
+    // The cost of a frame that the step doesn't refuse.
+    fn price(self, octets: usize) -> u32
+        requires { ⌜ inLimits (termsOf self) ≡ true ⌝ ∗ ⌜ octets ≤ largestFrame ⌝ }
+        ensures { λ r. ⌜ r ≡ cost (termsOf self) octets ⌝ }
+    {
+        self.charged(octets as u32) * bag_of(self.k)
+    }
+
+    fn with_credit(mut self, credit: u32, last: u64) -> Account
+        ensures { λ r. ⌜ r ≡ withCredit self credit last ⌝ }
+    {
+        self.credit = credit;
+        self.last = last;
+        self
+    }
+
+    // The capacity; 0 where the policing step refuses the account.
+    pub fn capacity(self) -> u32
+        ensures { λ r. ⌜ r ≡ capacityOf self ⌝ }
+    {
+        if !self.in_limits() {
+            return 0;
+        }
+        let full = self.rate() * (bag_of(self.k) + self.jitter as u32);
+        if full < self.credit {
+            return 0;
+        }
+        full
+    }
+
+    // The cost of a frame; 0 where the policing step refuses the octets or the account.
+    pub fn cost(self, octets: usize) -> u32
+        ensures { λ r. ⌜ r ≡ costOf self octets ⌝ }
+    {
+        if frame::length_code(octets) != 0 {
+            return 0;
+        }
+        if self.capacity() == 0 {
+            return 0;
+        }
+        self.price(octets)
+    }
+
+    // The account brought to a time; unchanged where the policing step refuses the account or the time.
+    pub fn top_up(self, time: u64) -> Account
+        ensures { λ r. ⌜ r ≡ toppedUp self time ⌝ }
+    {
+        let capacity = self.capacity();
+        if capacity == 0 {
+            return self;
+        }
+        if time < self.last {
+            return self;
+        }
+        let held = refilled(capacity, self.credit, self.rate(), time - self.last);
+        self.with_credit(held, time)
+    }
+
+    // The account less a frame's cost; unchanged where the credit is short.
+    pub fn debit(self, octets: usize) -> Account
+        ensures { λ r. ⌜ r ≡ debited self octets ⌝ }
+    {
+        let cost = self.cost(octets);
+        if self.credit < cost {
+            return self;
+        }
+        self.with_credit(self.credit - cost, self.last)
+    }
+
+    // The policing step: the answer for a frame of so many octets at a time, and the account after it.
+    pub fn police(self, octets: usize, time: u64) -> Policed
+        ensures { λ r. ⌜ stepped r ≡ policed self octets time ⌝ }
+    {
+        let code = frame::length_code(octets);
+        if code != 0 {
+            return Policed {
+                outcome: Outcome::Refused(code),
+                account: self,
+            };
+        }
+        let capacity = self.capacity();
+        if capacity == 0 {
+            return Policed {
+                outcome: Outcome::Refused(UNSOUND),
+                account: self,
+            };
+        }
+        if time < self.last {
+            return Policed {
+                outcome: Outcome::Late(self.credit),
+                account: self,
+            };
+        }
+        let held = refilled(capacity, self.credit, self.rate(), time - self.last);
+        let cost = self.price(octets);
+        if held < cost {
+            return Policed {
+                outcome: Outcome::Short(held),
+                account: self.with_credit(held, time),
+            };
+        }
+        let left = held - cost;
+        Policed {
+            outcome: Outcome::Forwarded(left),
+            account: self.with_credit(left, time),
+        }
+    }
+}
+
+// The policing step on an account that is lent: the new credit and last time are stored in it.
+pub fn police_in_place(a: &mut Account, octets: usize, time: u64) -> Outcome
+    ensures { λ r. ⌜ (told r ≡ policed (now (a .entry)) octets time .says) × (now (a .exit) ≡ policed (now (a .entry)) octets time .account) ⌝ }
+{
+    let p = Account::police(*a, octets, time);
+    a.credit = p.account.credit;
+    a.last = p.account.last;
+    p.outcome
+}
