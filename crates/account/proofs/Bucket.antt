@@ -2,7 +2,7 @@
 -- of the frames that reached it, and a cost is at most the topped-up credit exactly where the rule holds from each of them.
 -- Assumes nothing.
 use Prim.Native.Nat.{ℕ, zero, suc, _+_, _-_, _*_, _≤_, _<_, min}
-use mathlib.Core.Bool.{Bool, true, false, _&&_, and-true}
+use mathlib.Core.Bool.{Bool, true, _&&_, and-true}
 use mathlib.Core.Path.{_≡_, refl, sym, ap, ap₂, _∙_}
 use mathlib.Core.List.{List, [], _∷_}
 use native.Mathlib.Nat.{mul-add, mul-zero, sub-zero, le-trans}
@@ -11,7 +11,7 @@ use lib.Dec.{leb}
 use lib.ListN.{length}
 use borrow.Author.Tests.{leb-true, leb-false, le-leb, lt-leb}
 use Rattle.octets.proofs.Tests.{split, both, leb-same}
-use Rattle.account.specs.Bucket.{Reached, reached, lastTime, holdsFrom, ruleHolds, costs, FromItself, FromFrame, RuleRead}
+use Rattle.account.specs.Bucket.{Reached, reached, lastTime, holdsFrom, ruleHolds, costs, FromFrame, RuleRead}
 
 -- a minimum's test is both tests
 leb-min : (y a b : ℕ) → leb y (min a b) ≡ (leb y a && leb y b)

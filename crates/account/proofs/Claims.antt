@@ -4,14 +4,14 @@ use mathlib.Core.Bool.{true, cond}
 use mathlib.Core.Logic.{_⊎_, ⊎-elim}
 use mathlib.Core.Option.{Option, none, some}
 use mathlib.Core.Path.{_≡_, refl, sym, ap, _∙_}
-use mathlib.Core.List.{List, [], _∷_, List·Memᴰ, List·Memᴰ·head, List·Memᴰ·tail}
+use mathlib.Core.List.{[], _∷_, List·Memᴰ, List·Memᴰ·head, List·Memᴰ·tail}
 use native.Mathlib.Omega.{arith}
 use lib.Dec.{eqb}
 use Rattle.frame.specs.Frame.{lengthCode}
 use Rattle.frame.proofs.Frame.{by-length}
-use Rattle.account.specs.Terms.{Terms, inLimits, capacity, cost}
+use Rattle.account.specs.Terms.{cost}
 use Rattle.account.specs.Account.{termsOf, withCredit, valid, creditAt, costOf, toppedUp, debited}
-use Rattle.account.specs.Step.{Told, told, Stepped, step, policed}
+use Rattle.account.specs.Step.{Told, told}
 use Rattle.account.specs.Claims.{CapacityLargest, ToldApart, StepAnswers, RefusedStepKeeps, ShortStepTopsUp}
 use Rattle.account.specs.Claims.{ForwardedStepTakesCost, StepIsTopUpAndDebit}
 use Rattle.account.specs.declared.Account.{Account}

@@ -1,8 +1,8 @@
 -- What the limits of an account's values say of its products: every one fits 32 bits. The products are bounded once, over
 -- whatever octets are charged. Assumes nothing.
-use Prim.Native.Nat.{ℕ, _+_, _*_, _^_, _≤_, _<_, min}
-use mathlib.Core.Bool.{Bool, true, false, _&&_}
-use mathlib.Core.Path.{_≡_, refl, sym, ap}
+use Prim.Native.Nat.{ℕ, _+_, _*_, _^_, _≤_, _<_}
+use mathlib.Core.Bool.{true, false}
+use mathlib.Core.Path.{_≡_}
 use native.Mathlib.Nat.{mul-le-mul, mul-le-mul-left, le-trans, one-le-pow, one-le-mul}
 use native.Mathlib.Omega.{arith}
 use lib.Dec.{leb, eqb}

@@ -1,17 +1,17 @@
 -- Laws of an account's methods, case by case. Assumes nothing.
-use Prim.Native.Nat.{ℕ, _+_, _-_, _*_, _≤_, _<_, min}
+use Prim.Native.Nat.{ℕ, _-_, _≤_, _<_}
 use mathlib.Core.Bool.{Bool, true, false, not, _&&_}
-use mathlib.Core.Path.{_≡_, refl, sym, ap, ap₂, _∙_}
+use mathlib.Core.Path.{_≡_, sym, ap, ap₂, _∙_}
 use native.Mathlib.Nat.{min-le-left}
 use native.Mathlib.Omega.{arith}
-use lib.Dec.{leb, eqb}
-use borrow.Author.Tests.{leb-true, le-leb, lt-leb, eq-eqb, ne-eqb, not-true, not-false}
+use lib.Dec.{leb}
+use borrow.Author.Tests.{le-leb, lt-leb, eq-eqb, ne-eqb, not-true, not-false}
 use Rattle.octets.proofs.Tests.{split, both}
 use Rattle.frame.specs.Frame.{lengthCode}
-use Rattle.account.specs.Terms.{Terms, inLimits, rate, capacity, cost}
-use Rattle.account.specs.Account.{termsOf, accountOf, withCredit, loaded, valid, creditAt, capacityOf, costOf, toppedUp, debited}
+use Rattle.account.specs.Terms.{inLimits, capacity, cost}
+use Rattle.account.specs.Account.{termsOf, withCredit, valid, toppedCredit, creditAt, capacityOf, costOf, toppedUp, debited}
 use Rattle.account.specs.declared.Account.{Account}
-use Rattle.account.proofs.Limits.{Limits, limits, capacity-low}
+use Rattle.account.proofs.Limits.{limits, capacity-low}
 
 module _ (a : Account) where
   -- ---- a valid account
@@ -69,9 +69,9 @@ module _ (a : Account) where
     some-capacity h = e ∙ sym (capacity-is (some-valid h))
 
   -- ---- the topped-up credit
-  pub credit-at : (t c r w : ℕ) → c ≡ capacity (termsOf a) → r ≡ rate (termsOf a) → w ≡ min c (a .credit + r * (t - a .last)) → w ≡ creditAt a t
+  pub credit-at : (t c w : ℕ) → c ≡ capacity (termsOf a) → w ≡ toppedCredit c a t → w ≡ creditAt a t
   unfolding creditAt
-  credit-at t c r w p q e = e ∙ ap₂ (λ (x y : ℕ). min x (a .credit + y * (t - a .last))) p q
+  credit-at t c w p e = e ∙ ap (λ (x : ℕ). toppedCredit x a t) p
 
   pub credit-at-high : (t : ℕ) → creditAt a t ≤ capacity (termsOf a)
   unfolding creditAt

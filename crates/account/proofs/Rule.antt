@@ -1,17 +1,17 @@
 -- The rule of demand 3 for the account: a bucket of depth Smax x (BAG + J) and rate Smax. `arrival` is the single step, for a
 -- frame that no code before 8 refuses; the rule for every list of steps follows from it. Assumes nothing.
 use Prim.Native.Nat.{ℕ, _+_, _-_, _*_, _≤_, _<_}
-use mathlib.Core.Bool.{Bool, true, false, false≢true}
+use mathlib.Core.Bool.{true, false, false≢true}
 use mathlib.Core.Path.{_≡_, refl, sym, ap, ap₂, _∙_}
 use mathlib.Core.List.{List, [], _∷_}
 use native.Mathlib.Nat.{mul-add, sub-zero}
 use native.Mathlib.Omega.{arith}
-use lib.Dec.{ltb, leb, eqb}
+use lib.Dec.{leb, eqb}
 use borrow.Author.Tests.{le-leb, lt-leb, lt-ltb, le-ltb, eq-eqb, ne-eqb, eqb-true, eqb-false}
 use Rattle.octets.proofs.Tests.{split}
 use Rattle.frame.specs.Frame.{lengthCode}
 use Rattle.account.specs.Terms.{Terms, inLimits, bag, rate, capacity, cost}
-use Rattle.account.specs.Account.{termsOf, accountOf, withCredit, loaded, valid, creditAt}
+use Rattle.account.specs.Account.{accountOf, withCredit, loaded, valid, creditAt}
 use Rattle.account.specs.Step.{Stepped, step, policed}
 use Rattle.account.specs.Bucket.{Reached, reached, lastTime, ruleHolds}
 use Rattle.account.specs.Rule.{Arrival, allowance, Ruled, ruled, ruleArrived, ruleStep, ruleCodes, stepCodes, RuleOfSteps}

@@ -25,9 +25,13 @@ loaded p = accountOf p (capacity p) 0
 unfoldable pub valid : Account → Bool
 valid a = inLimits (termsOf a) && leb (a .credit) (capacity (termsOf a))
 
--- the topped-up credit at time t: the smaller of capacity and credit + Smax x (t - last)
+-- a credit topped up at time t: the smaller of a capacity and credit + Smax x (t - last)
+abbrev pub toppedCredit : ℕ → Account → ℕ → ℕ
+toppedCredit c a t = min c (a .credit + rate (termsOf a) * (t - a .last))
+
+-- that of the account's own capacity
 unfoldable pub creditAt : Account → ℕ → ℕ
-creditAt a t = min (capacity (termsOf a)) (a .credit + rate (termsOf a) * (t - a .last))
+creditAt a t = toppedCredit (capacity (termsOf a)) a t
 
 -- ---- the methods: where the policing step would refuse what they are given, capacity and cost are 0 and a top-up
 -- changes nothing

@@ -2,12 +2,12 @@
 use Prim.Native.Nat.{ℕ, _-_, _≤_}
 use mathlib.Core.Bool.{true}
 use mathlib.Core.Logic.{_⊎_}
-use mathlib.Core.Option.{Option, some}
+use mathlib.Core.Option.{some}
 use mathlib.Core.Path.{_≡_}
-use mathlib.Core.List.{List, [], _∷_, List·Memᴰ}
+use mathlib.Core.List.{[], _∷_, List·Memᴰ}
 use Rattle.account.specs.Terms.{Terms, inLimits, capacity, cost}
 use Rattle.account.specs.Account.{termsOf, withCredit, creditAt, toppedUp, debited}
-use Rattle.account.specs.Step.{Told, told, policed}
+use Rattle.account.specs.Step.{told, policed}
 use Rattle.account.specs.declared.Account.{Account}
 use Rattle.account.specs.declared.Outcome.{Outcome}
 

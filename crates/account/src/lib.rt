@@ -6,8 +6,8 @@ ghost use mathlib.Core.Bool.{true};
 ghost use Prim.Native.Nat.{_+_, _*_, _≤_, min};
 ghost use Rattle.frame.specs.Limits.{largestFrame};
 ghost use Rattle.account.specs.Terms.{largestK, bag, inLimits, rate, charged, cost};
-ghost use Rattle.account.specs.Account.{termsOf, withCredit, capacityOf, costOf, toppedUp, debited};
-ghost use Rattle.account.specs.Step.{told, stepped, policed};
+ghost use Rattle.account.specs.Account.{termsOf, withCredit, toppedCredit, capacityOf, costOf, toppedUp, debited};
+ghost use Rattle.account.specs.Step.{step, stepped, policed};
 
 const SHORTEST_BAG: u32 = 1000;
 
@@ -120,6 +120,14 @@ impl Account {
         self.charged(octets as u32) * bag_of(self.k)
     }
 
+    // The topped-up credit at a time that is not before the last, in an account of that capacity.
+    fn credit_at(self, capacity: u32, time: u64) -> u32
+        requires { ⌜ self .last ≤ time ⌝ }
+        ensures { λ r. ⌜ r ≡ toppedCredit capacity self time ⌝ }
+    {
+        refilled(capacity, self.credit, self.rate(), time - self.last)
+    }
+
     fn with_credit(mut self, credit: u32, last: u64) -> Account
         ensures { λ r. ⌜ r ≡ withCredit self credit last ⌝ }
     {
@@ -163,11 +171,10 @@ impl Account {
         if capacity == 0 {
             return self;
         }
-        if time < self.last {
+        if self.last > time {
             return self;
         }
-        let held = refilled(capacity, self.credit, self.rate(), time - self.last);
-        self.with_credit(held, time)
+        self.with_credit(self.credit_at(capacity, time), time)
     }
 
     // The account less a frame's cost; unchanged where the credit is short.
@@ -205,7 +212,7 @@ impl Account {
                 account: self,
             };
         }
-        let held = refilled(capacity, self.credit, self.rate(), time - self.last);
+        let held = self.credit_at(capacity, time);
         let cost = self.price(octets);
         if held < cost {
             return Policed {
@@ -223,7 +230,7 @@ impl Account {
 
 // The policing step on an account that is lent: the new credit and last time are stored in it.
 pub fn police_in_place(a: &mut Account, octets: usize, time: u64) -> Outcome
-    ensures { λ r. ⌜ (told r ≡ policed (now (a .entry)) octets time .says) × (now (a .exit) ≡ policed (now (a .entry)) octets time .account) ⌝ }
+    ensures { λ r. ⌜ step r (now (a .exit)) ≡ policed (now (a .entry)) octets time ⌝ }
 {
     let p = Account::police(*a, octets, time);
     a.credit = p.account.credit;

@@ -1,12 +1,12 @@
 -- What holds of frame reading for any octets: its codes, what a refusal gives, and the payload's length. Assumes nothing.
 use Prim.Native.Nat.{ℕ, _+_, _-_, _≤_}
 use mathlib.Core.Path.{_≡_, refl, sym, ap, _∙_}
-use mathlib.Core.List.{List, [], List·Memᴰ·head, List·Memᴰ·tail}
+use mathlib.Core.List.{List, List·Memᴰ·head, List·Memᴰ·tail}
 use native.Mathlib.Nat.{zero-add}
 use native.Mathlib.Omega.{arith}
-use lib.ListN.{length, take, drop, length-drop}
+use lib.ListN.{length, drop, length-drop}
 use lib.Seq.{length-take-le}
-use Rattle.frame.specs.Frame.{lengthCode, headerOf, payloadOf, payloadPlace, sequencePlace}
+use Rattle.frame.specs.Frame.{lengthCode, sequencePlace}
 use Rattle.frame.specs.Claims.{ReadingAnswers, ReadingRefused, PayloadLength}
 use Rattle.frame.specs.declared.Header.{Header}
 use Rattle.frame.proofs.Frame.{by-length, within, header-code, header-refused, payload-refused, payload-read}

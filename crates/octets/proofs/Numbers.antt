@@ -1,12 +1,12 @@
 -- Laws of numbers spelled in octets, over the width. Assumes nothing.
-use Prim.Native.Nat.{ℕ, zero, suc, _+_, _-_, _*_, _/_, _%_, _^_, _≤_, _<_}
+use Prim.Native.Nat.{ℕ, zero, suc, _+_, _*_, _/_, _%_, _^_, _≤_, _<_}
 use mathlib.Core.Path.{_≡_, refl, sym, ap, ap₂, _∙_}
 use mathlib.Core.List.{List, [], _∷_, _++_, append-assoc, append-nil}
 use native.Mathlib.Omega.{arith}
-use native.Mathlib.Nat.{add-zero, zero-add, add-suc, add-assoc, add-mul, mul-assoc, zero-mul, mul-one, pow-zero, pow-suc, mod-lt, mul-le-mul-right}
+use native.Mathlib.Nat.{add-zero, zero-add, add-suc, add-assoc, add-mul, mul-assoc, mul-one, pow-zero, pow-suc, mul-le-mul-right}
 use native.Mathlib.Nat.{div-add-mod', div-lt-iff-lt-mul, mul-add-div-right, mul-add-mod-self-right, div-eq-of-lt, mod-eq-of-lt, div-div-eq-div-mul}
 use lib.ListN.{length, getD, take, drop, length-append, List·getD-eq-default, List·getD-append}
-use lib.Seq.{getD-append-seam, getD-at, take-suc, getD-drop}
+use lib.Seq.{getD-at, take-suc, getD-drop}
 use Rattle.octets.specs.Numbers.{numberAt, octetsOf}
 
 -- one octet

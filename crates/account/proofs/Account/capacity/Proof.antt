@@ -1,5 +1,5 @@
 -- `capacity`: by the limits, then by the credit; the sum and the product fit by the limits. Assumes nothing.
-use mathlib.Core.Path.{_≡_, refl, sym, _∙_}
+use mathlib.Core.Path.{_≡_}
 use mathlib.Core.Bool.{true}
 use native.Mathlib.Omega.{arith}
 use Rattle.account.proofs.Limits.{limits, window-high, capacity-high, full-is}

@@ -1,11 +1,26 @@
 -- `police`: each return is a case of the step. Assumes nothing.
-use mathlib.Core.Path.{_≡_, refl, sym, ap, _∙_}
+use mathlib.Core.Bool.{true}
+use mathlib.Core.Path.{_≡_, sym, _∙_}
+use Rattle.frame.specs.Frame.{lengthCode}
 use Rattle.frame.proofs.Frame.{within}
+use Rattle.account.specs.Account.{valid, creditAt}
 use Rattle.account.proofs.Methods.{none-invalid, some-valid, some-capacity, valid-limits, credit-at}
 use Rattle.account.proofs.Step.{police-length, police-invalid, police-late, police-short, police-forwarded}
 use borrow.Author.Needs.{needs}
 use Rattle.account.proofs.Account.police.Statement.{statement}
 use Rattle.account.proofs.Account.police.Tie as tie
+
+-- past the first test the length is good
+good : (c : tie.Else1) → lengthCode (c .before .before .args .octets) ≡ 0
+good c = sym (c .before .length-code .ensures) ∙ c .if1 .left
+
+-- past the second the account is valid
+sound : (c : tie.Else2) → valid (c .before .before .before .before .args .self) ≡ true
+sound c = some-valid _ _ (c .before .capacity .ensures) (c .if2 .left)
+
+-- the credit held is the topped-up credit
+held : (c : tie.After-credit-at) → c .credit-at .result ≡ creditAt (c .before .before .before .before .before .before .before .args .self) (c .before .before .before .before .before .before .before .args .time)
+held c = credit-at _ _ _ _ (some-capacity _ _ (c .before .before .before .before .capacity .ensures) (c .before .before .before .if2 .left)) (c .credit-at .ensures)
 
 length-code-requires : tie.Need-length-code-requires
 length-code-requires c κs = search needs
@@ -17,37 +32,32 @@ capacity-requires : tie.Need-capacity-requires
 capacity-requires c κs = search needs
 
 returns-2 : tie.Need-returns-2
-returns-2 c = police-invalid _ _ _ (sym (c .before .before .before .length-code .ensures) ∙ c .before .before .if1 .left) (none-invalid _ _ (c .before .capacity .ensures) (c .if2 .taken))
+returns-2 c = police-invalid _ _ _ (good (c .before .before)) (none-invalid _ _ (c .before .capacity .ensures) (c .if2 .taken))
 
 returns-3 : tie.Need-returns-3
-returns-3 c = police-late _ _ _ (sym (c .before .before .before .before .before .length-code .ensures) ∙ c .before .before .before .before .if1 .left) (some-valid _ _ (c .before .before .before .capacity .ensures) (c .before .before .if2 .left)) (c .if3 .taken)
+returns-3 c = police-late _ _ _ (good (c .before .before .before .before)) (sound (c .before .before)) (c .if3 .taken)
 
-rate-requires : tie.Need-rate-requires
-rate-requires c κs = search needs
-
-refilled-requires : tie.Need-refilled-requires
-refilled-requires c κs = search needs
+credit-at-requires : tie.Need-credit-at-requires
+credit-at-requires c κs = search needs
 
 price-requires : tie.Need-price-requires
-price-requires c κs = (valid-limits _ (some-valid _ _ (c .before .before .before .before .before .before .capacity .ensures) (c .before .before .before .before .before .if2 .left)), within _ (sym (c .before .before .before .before .before .before .before .before .length-code .ensures) ∙ c .before .before .before .before .before .before .before .if1 .left) .1)
+price-requires c κs = (valid-limits _ (sound (c .before .before .before)), within _ (good (c .before .before .before .before .before)) .1)
 
 with-credit-requires : tie.Need-with-credit-requires
 with-credit-requires c κs = search needs
 
 returns-4 : tie.Need-returns-4
 returns-4 c =
-    police-short _ _ _ (sym (c .before .before .before .before .before .before .before .before .before .before .before .length-code .ensures) ∙ c .before .before .before .before .before .before .before .before .before .before .if1 .left) (some-valid _ _ (c .before .before .before .before .before .before .before .before .before .capacity .ensures) (c .before .before .before .before .before .before .before .before .if2 .left)) (c .before .before .before .before .before .before .if3 .left) _ _
-    (credit-at _ _ _ _ _ (some-capacity _ _ (c .before .before .before .before .before .before .before .before .before .capacity .ensures) (c .before .before .before .before .before .before .before .before .if2 .left)) (c .before .before .before .before .before .rate .ensures) (c .before .before .before .refilled .ensures))
-    (c .before .before .price .ensures) _ (c .before .if4 .taken) (c .with-credit .ensures)
+    police-short _ _ _ (good (c .before .before .before .before .before .before .before .before)) (sound (c .before .before .before .before .before .before)) (c .before .before .before .before .if3 .left) _ _ (held (c .before .before .before)) (c .before .before .price .ensures) _
+    (c .before .if4 .taken) (c .with-credit .ensures)
 
 with-credit-requires-2 : tie.Need-with-credit-requires-2
 with-credit-requires-2 c κs = search needs
 
 returns-5 : tie.Need-returns-5
 returns-5 c =
-    police-forwarded _ _ _ (sym (c .before .before .before .before .before .before .before .before .before .before .before .length-code .ensures) ∙ c .before .before .before .before .before .before .before .before .before .before .if1 .left) (some-valid _ _ (c .before .before .before .before .before .before .before .before .before .capacity .ensures) (c .before .before .before .before .before .before .before .before .if2 .left)) (c .before .before .before .before .before .before .if3 .left) _ _
-    (credit-at _ _ _ _ _ (some-capacity _ _ (c .before .before .before .before .before .before .before .before .before .capacity .ensures) (c .before .before .before .before .before .before .before .before .if2 .left)) (c .before .before .before .before .before .rate .ensures) (c .before .before .before .refilled .ensures))
-    (c .before .before .price .ensures) _ (c .before .if4 .left) (c .with-credit2 .ensures)
+    police-forwarded _ _ _ (good (c .before .before .before .before .before .before .before .before)) (sound (c .before .before .before .before .before .before)) (c .before .before .before .before .if3 .left) _ _ (held (c .before .before .before)) (c .before .before .price .ensures) _
+    (c .before .if4 .left) (c .with-credit2 .ensures)
 
 pub police-spec : {M : Type 1} → statement M
 police-spec =
@@ -58,8 +68,7 @@ police-spec =
     capacity-requires
     returns-2
     returns-3
-    rate-requires
-    refilled-requires
+    credit-at-requires
     price-requires
     with-credit-requires
     returns-4

@@ -1,5 +1,4 @@
 -- `price`: the product fits by the limits. Assumes nothing.
-use mathlib.Core.Path.{_≡_, refl, sym, _∙_}
 use native.Mathlib.Omega.{arith}
 use Rattle.account.proofs.Limits.{limits, cost-high, product-is}
 use Rattle.account.specs.Account.{termsOf}

@@ -1,8 +1,7 @@
 -- `top_up`: by the account, then by the time. Assumes nothing.
-use mathlib.Core.Path.{_≡_, refl, sym, ap, _∙_}
+use mathlib.Core.Path.{ap, _∙_}
 use Rattle.account.proofs.Methods.{none-invalid, some-valid, some-capacity, credit-at, top-up-invalid, top-up-late, top-up-valid}
 use Rattle.account.specs.Account.{withCredit}
-use Rattle.account.specs.declared.Account.{Account}
 use borrow.Author.Needs.{needs}
 use Rattle.account.proofs.Account.top_up.Statement.{statement}
 use Rattle.account.proofs.Account.top_up.Tie as tie
@@ -16,11 +15,8 @@ returns c = top-up-invalid _ _ (none-invalid _ _ (c .before .capacity .ensures) 
 returns-2 : tie.Need-returns-2
 returns-2 c = top-up-late _ _ (some-valid _ _ (c .before .before .before .capacity .ensures) (c .before .before .if1 .left)) (c .if2 .taken)
 
-rate-requires : tie.Need-rate-requires
-rate-requires c κs = search needs
-
-refilled-requires : tie.Need-refilled-requires
-refilled-requires c κs = search needs
+credit-at-requires : tie.Need-credit-at-requires
+credit-at-requires c κs = search needs
 
 with-credit-requires : tie.Need-with-credit-requires
 with-credit-requires c κs = search needs
@@ -28,9 +24,9 @@ with-credit-requires c κs = search needs
 returns-3 : tie.Need-returns-3
 returns-3 c =
     c .with-credit .ensures
-    ∙ ap (λ (held : _). withCredit (c .before .before .before .before .before .before .before .before .args .self) held (c .before .before .before .before .before .before .before .before .args .time))
-    (credit-at _ _ _ _ _ (some-capacity _ _ (c .before .before .before .before .before .before .before .capacity .ensures) (c .before .before .before .before .before .before .if1 .left)) (c .before .before .before .rate .ensures) (c .before .refilled .ensures))
-    ∙ top-up-valid _ _ (some-valid _ _ (c .before .before .before .before .before .before .before .capacity .ensures) (c .before .before .before .before .before .before .if1 .left)) (c .before .before .before .before .if2 .left)
+    ∙ ap (λ (held : _). withCredit (c .before .before .before .before .before .before .args .self) held (c .before .before .before .before .before .before .args .time))
+    (credit-at _ _ _ _ (some-capacity _ _ (c .before .before .before .before .before .capacity .ensures) (c .before .before .before .before .if1 .left)) (c .before .credit-at .ensures))
+    ∙ top-up-valid _ _ (some-valid _ _ (c .before .before .before .before .before .capacity .ensures) (c .before .before .before .before .if1 .left)) (c .before .before .if2 .left)
 
 pub top-up-spec : {M : Type 1} → statement M
 top-up-spec =
@@ -39,7 +35,6 @@ top-up-spec =
     capacity-requires
     returns
     returns-2
-    rate-requires
-    refilled-requires
+    credit-at-requires
     with-credit-requires
     returns-3)
