@@ -123,10 +123,18 @@ unfolding charged
 charged-frames p n h = simp (ne-eqb _ _ h)
 
 -- ---- the products, as the code takes them
-pub product-is : (p : Terms) (n x b : ℕ) → x ≡ charged p n → b ≡ bag (p .k) → x * b ≡ cost p n
-unfolding cost
-product-is p n x b e f = rw (e, f)
+module _ (p : Terms) (n x b : ℕ) (e : x ≡ charged p n) (f : b ≡ bag (p .k)) where
+  pub product-is : x * b ≡ cost p n
+  unfolding cost
+  product-is = rw (e, f)
 
-pub full-is : (p : Terms) (r b : ℕ) → r ≡ rate p → b ≡ bag (p .k) → r * (b + p .jitter) ≡ capacity p
-unfolding capacity
-full-is p r b e f = rw (e, f)
+  pub product-fits : Limits p → n ≤ largestFrame → x * b < 2 ^ 32
+  product-fits l h = omega (arith, product-is, cost-high p l n h)
+
+module _ (p : Terms) (r b : ℕ) (e : r ≡ rate p) (f : b ≡ bag (p .k)) where
+  pub full-is : r * (b + p .jitter) ≡ capacity p
+  unfolding capacity
+  full-is = rw (e, f)
+
+  pub full-fits : Limits p → r * (b + p .jitter) < 2 ^ 32
+  full-fits l = omega (arith, full-is, capacity-high p l)

@@ -1,7 +1,7 @@
 -- The rule of demand 3 for the account: a bucket of depth Smax x (BAG + J) and rate Smax. `arrival` is the single step, for a
 -- frame that no code before 8 refuses; the rule for every list of steps follows from it. Assumes nothing.
-use Prim.Native.Nat.{ℕ, _+_, _-_, _*_, _≤_, _<_}
-use mathlib.Core.Bool.{true, false, false≢true}
+use Prim.Native.Nat.{ℕ, _+_, _-_, _*_, _≤_}
+use mathlib.Core.Bool.{true, false≢true}
 use mathlib.Core.Path.{_≡_, refl, sym, ap, ap₂, _∙_}
 use mathlib.Core.List.{List, [], _∷_}
 use native.Mathlib.Nat.{mul-add, sub-zero}
@@ -31,19 +31,6 @@ module _ (p : Terms) (past : List Reached) (n t : ℕ) where
   step-arrived : lengthCode n ≡ 0 → ruleStep p past n t ≡ ruleArrived p past n t
   unfolding ruleStep
   step-arrived h = simp (eq-eqb (lengthCode n) 0 h)
-
-  arrived-late : t < lastTime past → ruleArrived p past n t ≡ ruled 8 past
-  unfolding ruleArrived
-  arrived-late h = simp (lt-ltb _ _ h)
-
-  module _ (h : lastTime past ≤ t) where
-    arrived-forwarded : ruleHolds (allowance p) past (cost p n) t ≡ true → ruleArrived p past n t ≡ ruled 0 (reached t (cost p n) ∷ past)
-    unfolding ruleArrived
-    arrived-forwarded e = simp (le-ltb _ _ h, e)
-
-    arrived-short : ruleHolds (allowance p) past (cost p n) t ≡ false → ruleArrived p past n t ≡ ruled 9 (reached t 0 ∷ past)
-    unfolding ruleArrived
-    arrived-short e = simp (le-ltb _ _ h, e)
 
 -- ---- one step
 module _ (p : Terms) where
@@ -104,13 +91,14 @@ module _ (p : Terms) where
 
       -- a frame that no code before 8 refuses
       pub arrival : (n t : ℕ) → lengthCode n ≡ 0 → Agree (policed (state past) n t) (ruleArrived p past n t)
+      unfolding ruleArrived
       arrival n t z =
           by-step (state past) n t (λ q. Agree q (ruleArrived p past n t))
           (λ m. absurd (m z))
           (λ _ v. absurd (false≢true (sym v ∙ state-valid)))
-          (λ _ _ l. rw (arrived-late p past n t l) (record { same-code = refl; same-account = refl; sound = s }))
-          (λ _ _ h l. rw (arrived-short p past n t h (rule-is (cost p n) t h ∙ lt-leb _ _ l)) (short-agrees n t h))
-          (λ _ _ h l. rw (arrived-forwarded p past n t h (rule-is (cost p n) t h ∙ le-leb _ _ l)) (forwarded-agrees n t h l))
+          (λ _ _ l. simp (lt-ltb _ _ l) (record { same-code = refl; same-account = refl; sound = s }))
+          (λ _ _ h l. simp (le-ltb _ _ h, rule-is (cost p n) t h ∙ lt-leb _ _ l) (short-agrees n t h))
+          (λ _ _ h l. simp (le-ltb _ _ h, rule-is (cost p n) t h ∙ le-leb _ _ l) (forwarded-agrees n t h l))
 
       -- any frame
       pub stepping : (n t : ℕ) → Agree (policed (state past) n t) (ruleStep p past n t)

@@ -6,7 +6,7 @@ use native.Mathlib.Nat.{zero-add}
 use native.Mathlib.Omega.{arith}
 use lib.ListN.{length, drop, length-drop}
 use lib.Seq.{length-take-le}
-use Rattle.frame.specs.Frame.{lengthCode, sequencePlace}
+use Rattle.frame.specs.Frame.{lengthCode, sequencePlace, payloadStart}
 use Rattle.frame.specs.Claims.{ReadingAnswers, ReadingRefused, PayloadLength}
 use Rattle.frame.specs.declared.Header.{Header}
 use Rattle.frame.proofs.Frame.{by-length, within, header-code, header-refused, payload-refused, payload-read}
@@ -33,6 +33,6 @@ pub payload-length : PayloadLength
 payload-length f z =
     let c : lengthCode (length f) ≡ 0 = sym (header-code f) ∙ z in
     let w = within (length f) c in
-    let r : sequencePlace f - 14 ≤ length (drop 14 f) = simp length-drop (omega arith) in
+    let r : sequencePlace f - payloadStart ≤ length (drop payloadStart f) = simp length-drop (omega arith) in
     ap (λ (xs : List ℕ). length xs + 19) (sym (payload-read f (lengthCode (length f)) refl (0, 0) c .0))
-    ∙ omega (arith, length-take-le (sequencePlace f - 14) (drop 14 f) r)
+    ∙ omega (arith, length-take-le (sequencePlace f - payloadStart) (drop payloadStart f) r)

@@ -10,7 +10,7 @@ use borrow.Author.Tests.{ltb-true, ltb-false, lt-ltb, le-ltb, eq-eqb, ne-eqb}
 use Rattle.octets.proofs.Tests.{split}
 use Rattle.frame.specs.Limits.{smallestFrame, largestFrame}
 use Rattle.frame.specs.declared.Header.{Header}
-use Rattle.frame.specs.Frame.{lengthCode, linkNumber, sequenceNumber, sequencePlace, headerOf, payloadOf, payloadPlace}
+use Rattle.frame.specs.Frame.{lengthCode, linkNumber, sequenceNumber, sequencePlace, headerOf, payloadStart, payloadOf, payloadPlace}
 
 -- ---- the code of a length
 module _ (n : ℕ) where
@@ -68,7 +68,7 @@ module _ (f : List ℕ) (r : ℕ) (e : r ≡ lengthCode (length f)) where
       (simp k, simp (k, zero-add))
 
   pub payload-read : (p : ℕ × ℕ) → r ≡ 0
-      → (take (sequencePlace f - 14) (drop 14 f) ≡ payloadOf f) × ((p .0, 14 + p .1) ≡ payloadPlace p f)
+      → (take (sequencePlace f - payloadStart) (drop payloadStart f) ≡ payloadOf f) × ((p .0, payloadStart + p .1) ≡ payloadPlace p f)
   unfolding payloadOf payloadPlace
   payload-read p z =
       let k = eq-eqb (lengthCode (length f)) 0 (sym e ∙ z) in

@@ -34,11 +34,18 @@ headerOf f =
     then record { code = 0; link = linkNumber f; sequence = sequenceNumber f }
     else record { code = lengthCode (length f); link = 0; sequence = 0 }
 
--- the payload: the octets from 14 up to but not including the sequence number; none after a refusal
+-- the payload starts behind the two addresses and the type
+abbrev pub payloadStart : ℕ
+payloadStart = 14
+
+-- the payload: from octet 14 to the octet before the sequence number; none after a refusal
 unfoldable pub payloadOf : List ℕ → List ℕ
-payloadOf f = if eqb (lengthCode (length f)) 0 then take (sequencePlace f - 14) (drop 14 f) else []
+payloadOf f =
+    if eqb (lengthCode (length f)) 0
+    then take (sequencePlace f - payloadStart) (drop payloadStart f)
+    else []
 
 -- where the payload stands, as a block of memory and an offset in it: octet 14 of the frame, or the frame's own start
 -- after a refusal
 unfoldable pub payloadPlace : ℕ × ℕ → List ℕ → ℕ × ℕ
-payloadPlace p f = if eqb (lengthCode (length f)) 0 then (p .0, 14 + p .1) else p
+payloadPlace p f = if eqb (lengthCode (length f)) 0 then (p .0, payloadStart + p .1) else p

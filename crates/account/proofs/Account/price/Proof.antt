@@ -1,7 +1,5 @@
 -- `price`: the product fits by the limits. Assumes nothing.
-use native.Mathlib.Omega.{arith}
-use Rattle.account.proofs.Limits.{limits, cost-high, product-is}
-use Rattle.account.specs.Account.{termsOf}
+use Rattle.account.proofs.Limits.{limits, product-is, product-fits}
 use borrow.Author.Needs.{needs}
 use Rattle.account.proofs.Account.price.Statement.{statement}
 use Rattle.account.proofs.Account.price.Tie as tie
@@ -16,9 +14,7 @@ bag-of-requires : tie.Need-bag-of-requires
 bag-of-requires c κs = limits _ (c .before .pre .0) .k-high
 
 mul-result : tie.Need-mul-result
-mul-result c =
-    let l = limits (termsOf (c .before .before .args .self)) (c .before .before .pre .0) in
-    record { fits = rw (product-is _ _ _ _ (c .before .charged .ensures) (c .bag-of .ensures)) (omega (arith, cost-high _ l (c .before .before .args .octets) (c .before .before .pre .1))) }
+mul-result c = record { fits = product-fits _ _ _ _ (c .before .charged .ensures) (c .bag-of .ensures) (limits _ (c .before .before .pre .0)) (c .before .before .pre .1) }
 
 returns : tie.Need-returns
 returns c = product-is _ _ _ _ (c .before .charged .ensures) (c .bag-of .ensures)
