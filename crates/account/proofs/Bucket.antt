@@ -116,7 +116,7 @@ module _ (depth rate : ℕ) where
         sym (leb-min y depth (held (r ∷ past) + gain t (r .at)))
 
     -- the rule's test is the credit's
-    pub rule-is : (past : List Reached) (x t : ℕ) → Sound past → lastTime past ≤ t → ruleHolds allow past x t ≡ leb x (topped past t)
+    pub rule-is : (past : List Reached) (x t : ℕ) → Sound past → lastTime past ≤ t → ruleHolds allow t x past ≡ leb x (topped past t)
     unfolding ruleHolds
     rule-is past x t s h =
         ap (λ (b : Bool). b && holdsFrom allow t x past)
@@ -159,7 +159,7 @@ module _ (allow : ℕ → ℕ) (t : ℕ) where
 
 pub rule-read : RuleRead
 unfolding ruleHolds
-rule-read allow past x t = (
+rule-read allow t x past = (
   λ e. let b = both (leb x (allow 0)) (holdsFrom allow t x past) e in (leb-true _ _ (b .0), from-holds allow t past x (b .1)),
   λ h. ap₂ _&&_ (le-leb x (allow 0) (h .0)) (holds-from allow t past x (h .1)),
 )

@@ -9,20 +9,22 @@ use native.Mathlib.Omega.{arith}
 use lib.Dec.{eqb}
 use Rattle.frame.specs.Frame.{lengthCode}
 use Rattle.frame.proofs.Frame.{by-length}
-use Rattle.account.specs.Terms.{cost}
-use Rattle.account.specs.Account.{termsOf, withCredit, valid, creditAt, costOf, toppedUp, debited}
+use Rattle.account.specs.Terms.{inLimits, bag, charge, rate, capacity, cost}
+use Rattle.account.specs.Account.{termsOf, holding, valid, creditAt, costOf, toppedUp, debited}
 use Rattle.account.specs.Step.{Told, told}
 use Rattle.account.specs.Claims.{CapacityLargest, ToldApart, StepAnswers, RefusedStepKeeps, ShortStepTopsUp}
-use Rattle.account.specs.Claims.{ForwardedStepTakesCost, StepIsTopUpAndDebit}
+use Rattle.account.specs.Claims.{ForwardedStepTakesCost, StepIsTopUpAndDebit, Rest, RefusedMethodsRest}
 use Rattle.account.specs.declared.Account.{Account}
 use Rattle.account.specs.declared.Outcome.{Outcome}
 use Rattle.account.specs.declared.Outcome.the-variants.{Forwarded, Short, Late, Refused}
 use Rattle.account.proofs.Limits.{limits, capacity-high}
-use Rattle.account.proofs.Methods.{valid-limits, valid-by, credit-at-high, top-up-valid, cost-valid, debit-enough, debit-short}
+use Rattle.account.proofs.Methods.{valid-limits, valid-by, capacity-not, credit-at-high, top-up-invalid, top-up-late, top-up-valid}
+use Rattle.account.proofs.Methods.{cost-refused, cost-invalid, cost-valid, debit-enough, debit-short}
 use Rattle.account.proofs.Step.{by-step}
 
 pub capacity-largest : CapacityLargest
-capacity-largest p ok = capacity-high p (limits p ok)
+unfolding inLimits bag charge rate capacity
+capacity-largest = (λ p ok. capacity-high p (limits p ok), refl, refl)
 
 -- an answer, from what it tells
 heard : Told → Outcome
@@ -72,7 +74,7 @@ refused-step-keeps a n t =
 
 pub short-step-tops-up : ShortStepTopsUp
 short-step-tops-up a n t =
-    by-step a n t (λ q. q .says .code ≡ 9 → (q .account ≡ withCredit a (creditAt a t) t) × (q .says .credit ≡ some (creditAt a t)))
+    by-step a n t (λ q. q .says .code ≡ 9 → (q .account ≡ holding a (creditAt a t) t) × (q .says .credit ≡ some (creditAt a t)))
     (λ m e. absurd (length-refuses n m (λ x. x ≡ 9 → ⊥) (λ f. omega arith) (λ f. omega arith) e))
     (λ _ _ e. absurd (omega arith))
     (λ _ _ _ e. absurd (omega arith))
@@ -82,7 +84,7 @@ short-step-tops-up a n t =
 pub forwarded-step-takes-cost : ForwardedStepTakesCost
 forwarded-step-takes-cost a n t =
     by-step a n t (λ q. q .says .code ≡ 0
-    → (q .account ≡ withCredit a (creditAt a t - cost (termsOf a) n) t)
+    → (q .account ≡ holding a (creditAt a t - cost (termsOf a) n) t)
     × (q .says .credit ≡ some (creditAt a t - cost (termsOf a) n))
     × (cost (termsOf a) n ≤ creditAt a t))
     (λ m e. absurd (m e))
@@ -94,7 +96,7 @@ forwarded-step-takes-cost a n t =
 -- ---- a step that reaches the account is a top-up and then a debit
 module _ (a : Account) (n t : ℕ) (z : lengthCode n ≡ 0) (v : valid a ≡ true) (h : a .last ≤ t) where
   abbrev topped : Account
-  topped = withCredit a (creditAt a t) t
+  topped = holding a (creditAt a t) t
 
   topped-up : debited topped n ≡ debited (toppedUp a t) n
   topped-up = ap (λ (b : Account). debited b n) (top-up-valid a t v h)
@@ -102,17 +104,34 @@ module _ (a : Account) (n t : ℕ) (z : lengthCode n ≡ 0) (v : valid a ≡ tru
   cost-is : cost (termsOf a) n ≡ costOf topped n
   cost-is = cost-valid topped n z (valid-by topped (valid-limits a v) (credit-at-high a t))
 
--- another code is neither 0 nor 9
-neither : (x : ℕ) {P : Type 0} → (x ≡ 0 → ⊥) → (x ≡ 9 → ⊥) → (x ≡ 0) ⊎ (x ≡ 9) → P
-neither x f g e = absurd (⊎-elim f g e)
+-- a code that is neither of two
+neither : (x y z : ℕ) {P : Type 0} → (x ≡ y → ⊥) → (x ≡ z → ⊥) → (x ≡ y) ⊎ (x ≡ z) → P
+neither x y z f g e = absurd (⊎-elim f g e)
 
 pub step-is-top-up-and-debit : StepIsTopUpAndDebit
 step-is-top-up-and-debit a n t =
     by-step a n t (λ q. (q .says .code ≡ 0) ⊎ (q .says .code ≡ 9) → q .account ≡ debited (toppedUp a t) n)
     (λ m. length-refuses n m (λ x. (x ≡ 0) ⊎ (x ≡ 9) → a ≡ debited (toppedUp a t) n)
-    (neither 1 (λ e. omega arith) (λ e. omega arith))
-    (neither 2 (λ e. omega arith) (λ e. omega arith)))
-    (λ _ _. neither 10 (λ e. omega arith) (λ e. omega arith))
-    (λ _ _ _. neither 8 (λ e. omega arith) (λ e. omega arith))
+    (neither 1 0 9 (λ e. omega arith) (λ e. omega arith))
+    (neither 2 0 9 (λ e. omega arith) (λ e. omega arith)))
+    (λ _ _. neither 10 0 9 (λ e. omega arith) (λ e. omega arith))
+    (λ _ _ _. neither 8 0 9 (λ e. omega arith) (λ e. omega arith))
     (λ z v h l _. debit-short (topped a n t z v h) n _ (cost-is a n t z v h) l ∙ topped-up a n t z v h)
     (λ z v h l _. debit-enough (topped a n t z v h) n _ (cost-is a n t z v h) l ∙ topped-up a n t z v h)
+
+-- where the step refuses, the methods rest
+pub refused-methods-rest : RefusedMethodsRest
+refused-methods-rest a n t =
+    by-step a n t (λ q. Rest a n t (q .says .code))
+    (λ m. length-refuses n m (Rest a n t) (length 1 m (λ e. omega arith) (λ e. omega arith)) (length 2 m (λ e. omega arith) (λ e. omega arith)))
+    (λ z v. (
+      λ _. sym (cost-invalid a n z v),
+      λ _. (sym (capacity-not a v), sym (cost-invalid a n z v), sym (top-up-invalid a t v)),
+      λ e. absurd (omega arith),
+    ))
+    (λ _ v l. (neither 8 1 2 (λ e. omega arith) (λ e. omega arith), λ e. absurd (omega arith), λ _. sym (top-up-late a t v l)))
+    (λ _ _ _ _. (neither 9 1 2 (λ e. omega arith) (λ e. omega arith), λ e. absurd (omega arith), λ e. absurd (omega arith)))
+    (λ _ _ _ _. (neither 0 1 2 (λ e. omega arith) (λ e. omega arith), λ e. absurd (omega arith), λ e. absurd (omega arith)))
+  where
+    length : (x : ℕ) → (lengthCode n ≡ 0 → ⊥) → (x ≡ 10 → ⊥) → (x ≡ 8 → ⊥) → Rest a n t x
+    length x m f g = (λ _. sym (cost-refused a n _ refl m), λ e. absurd (f e), λ e. absurd (g e))

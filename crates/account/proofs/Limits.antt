@@ -3,14 +3,14 @@
 use Prim.Native.Nat.{ℕ, _+_, _*_, _^_, _≤_, _<_}
 use mathlib.Core.Bool.{true, false}
 use mathlib.Core.Path.{_≡_}
-use native.Mathlib.Nat.{mul-le-mul, mul-le-mul-left, le-trans, one-le-pow, one-le-mul}
+use native.Mathlib.Nat.{mul-le-mul, mul-le-mul-left, le-trans, le-refl, one-le-pow, one-le-mul}
 use native.Mathlib.Omega.{arith}
 use lib.Dec.{leb, eqb}
 use lib.Pow.{pow-mono}
 use borrow.Author.Tests.{leb-true, lt-leb, le-leb, eq-eqb, ne-eqb}
 use Rattle.octets.proofs.Tests.{split, both}
 use Rattle.frame.specs.Limits.{smallestFrame, largestFrame}
-use Rattle.account.specs.Terms.{Terms, largestK, largestJitter, byteMode, frameMode, inLimits, bag, rate, capacity, charged, cost}
+use Rattle.account.specs.Terms.{Terms, largestK, largestJitter, byteMode, frameMode, inLimits, shortestBag, bag, charge, rate, capacity, charged, cost}
 
 -- ---- the limits, one by one
 pub record Limits (p : Terms) : Type 0 where
@@ -60,39 +60,48 @@ module _ (p : Terms) where
         unfolding inLimits
         mode-tested h = simp (le-leb _ _ h1, le-leb _ _ h2, le-leb _ _ h3, le-leb _ _ h)
 
--- ---- bounds
+-- ---- bounds, by formula from the limits
 abbrev longestBag : ℕ
-longestBag = 128000
+longestBag = shortestBag * 2 ^ largestK
 
 abbrev longestWindow : ℕ
-longestWindow = 138000
+longestWindow = longestBag + largestJitter
 
 abbrev pub largestProduct : ℕ
-largestProduct = 209484000
+largestProduct = largestFrame * longestWindow
 
 pub bag-high : (k : ℕ) → k ≤ largestK → bag k ≤ longestBag
 unfolding bag
-bag-high k h = mul-le-mul-left 1000 (pow-mono h)
+bag-high k h = mul-le-mul-left shortestBag (pow-mono h)
 
--- the charged octets, or the rate, times a part of the window
+-- whatever is charged, times a part of the window
 pub product-high : (x w : ℕ) → x ≤ largestFrame → w ≤ longestWindow → x * w ≤ largestProduct
 product-high x w h k = mul-le-mul h k
+
+-- the charge of a frame's octets is at least these and at most the largest frame's
+pub charge-high : (p : Terms) (n : ℕ) → n ≤ largestFrame → charge p n ≤ largestFrame
+unfolding charge
+charge-high p n h = h
+
+charge-low : (p : Terms) (n : ℕ) → n ≤ charge p n
+unfolding charge
+charge-low p n = le-refl n
 
 module _ (p : Terms) (l : Limits p) where
   pub rate-high : rate p ≤ largestFrame
   unfolding rate
-  rate-high = l .smax-high
+  rate-high = charge-high p (p .smax) (l .smax-high)
 
   rate-low : 1 ≤ rate p
   unfolding rate
-  rate-low = le-trans (omega arith) (l .smax-low)
+  rate-low = le-trans (omega arith) (le-trans (l .smax-low) (charge-low p (p .smax)))
 
   pub charged-high : (n : ℕ) → n ≤ largestFrame → charged p n ≤ largestFrame
   unfolding charged
   charged-high n h =
       split (eqb (p .mode) byteMode)
-      (λ e. simp e h)
-      (λ e. simp e rate-high)
+      (λ e. simp e (charge-high p n h))
+      (λ e. simp e (charge-high p (p .smax) (l .smax-high)))
 
   pub window-high : bag (p .k) + p .jitter ≤ longestWindow
   window-high = let b = bag-high (p .k) (l .k-high) in let j = l .jitter-high in omega arith
@@ -104,7 +113,7 @@ module _ (p : Terms) (l : Limits p) where
   pub capacity-low : 1 ≤ capacity p
   unfolding capacity bag
   capacity-low =
-      let b : 1 ≤ 1000 * 2 ^ p .k = one-le-mul {a = 1000} {b = 2 ^ p .k} (omega arith) (one-le-pow (p .k) 2 (omega arith)) in
+      let b : 1 ≤ shortestBag * 2 ^ p .k = one-le-mul {a = shortestBag} {b = 2 ^ p .k} (omega arith) (one-le-pow (p .k) 2 (omega arith)) in
       one-le-mul rate-low (omega arith)
 
   pub cost-high : (n : ℕ) → n ≤ largestFrame → cost p n ≤ largestProduct
@@ -113,13 +122,13 @@ module _ (p : Terms) (l : Limits p) where
       let b = bag-high (p .k) (l .k-high) in
       product-high (charged p n) (bag (p .k)) (charged-high n h) (omega arith)
 
--- ---- the charge, by mode
+-- ---- what is charged, by mode
 pub charged-bytes : (p : Terms) (n : ℕ) → p .mode ≡ byteMode → n ≡ charged p n
-unfolding charged
+unfolding charge charged
 charged-bytes p n h = simp (eq-eqb _ _ h)
 
 pub charged-frames : (p : Terms) (n : ℕ) → (p .mode ≡ byteMode → ⊥) → rate p ≡ charged p n
-unfolding charged
+unfolding rate charged
 charged-frames p n h = simp (ne-eqb _ _ h)
 
 -- ---- the products, as the code takes them

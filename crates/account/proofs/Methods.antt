@@ -1,5 +1,5 @@
 -- Laws of an account's methods, case by case. Assumes nothing.
-use Prim.Native.Nat.{ℕ, _-_, _≤_, _<_}
+use Prim.Native.Nat.{ℕ, _+_, _-_, _*_, _≤_, _<_, min}
 use mathlib.Core.Bool.{Bool, true, false, not, _&&_}
 use mathlib.Core.Path.{_≡_, sym, ap, ap₂, _∙_}
 use native.Mathlib.Nat.{min-le-left}
@@ -8,8 +8,8 @@ use lib.Dec.{leb}
 use borrow.Author.Tests.{le-leb, lt-leb, eq-eqb, ne-eqb, not-true, not-false}
 use Rattle.octets.proofs.Tests.{split, both}
 use Rattle.frame.specs.Frame.{lengthCode}
-use Rattle.account.specs.Terms.{inLimits, capacity, cost}
-use Rattle.account.specs.Account.{termsOf, withCredit, valid, toppedCredit, creditAt, capacityOf, costOf, toppedUp, debited}
+use Rattle.account.specs.Terms.{inLimits, rate, capacity, cost}
+use Rattle.account.specs.Account.{termsOf, holding, valid, creditAt, capacityOf, costOf, toppedUp, debited}
 use Rattle.account.specs.declared.Account.{Account}
 use Rattle.account.proofs.Limits.{limits, capacity-low}
 
@@ -24,7 +24,7 @@ module _ (a : Account) where
   valid-by e h = ap₂ _&&_ e (le-leb _ _ h)
 
   -- ---- capacity: by the limits and the credit
-  capacity-not : valid a ≡ false → 0 ≡ capacityOf a
+  pub capacity-not : valid a ≡ false → 0 ≡ capacityOf a
   unfolding capacityOf
   capacity-not v = simp v
 
@@ -68,10 +68,10 @@ module _ (a : Account) where
     pub some-capacity : (c ≡ 0 → ⊥) → c ≡ capacity (termsOf a)
     some-capacity h = e ∙ sym (capacity-is (some-valid h))
 
-  -- ---- the topped-up credit
-  pub credit-at : (t c w : ℕ) → c ≡ capacity (termsOf a) → w ≡ toppedCredit c a t → w ≡ creditAt a t
+  -- ---- the topped-up credit, of a capacity and a rate
+  pub credit-at : (t c r w : ℕ) → c ≡ capacity (termsOf a) → r ≡ rate (termsOf a) → w ≡ min c (a .credit + r * (t - a .last)) → w ≡ creditAt a t
   unfolding creditAt
-  credit-at t c w p e = e ∙ ap (λ (x : ℕ). toppedCredit x a t) p
+  credit-at t c r w p q e = e ∙ ap₂ (λ (x y : ℕ). min x (a .credit + y * (t - a .last))) p q
 
   pub credit-at-high : (t : ℕ) → creditAt a t ≤ capacity (termsOf a)
   unfolding creditAt
@@ -87,7 +87,7 @@ module _ (a : Account) where
     unfolding toppedUp
     top-up-late v h = simp (v, lt-leb _ _ h)
 
-    pub top-up-valid : valid a ≡ true → a .last ≤ t → withCredit a (creditAt a t) t ≡ toppedUp a t
+    pub top-up-valid : valid a ≡ true → a .last ≤ t → holding a (creditAt a t) t ≡ toppedUp a t
     unfolding toppedUp
     top-up-valid v h = simp (v, le-leb _ _ h)
 
@@ -111,6 +111,6 @@ module _ (a : Account) where
       unfolding debited
       debit-short h = simp (← e, lt-leb _ _ h)
 
-      pub debit-enough : x ≤ a .credit → withCredit a (a .credit - x) (a .last) ≡ debited a n
+      pub debit-enough : x ≤ a .credit → holding a (a .credit - x) (a .last) ≡ debited a n
       unfolding debited
       debit-enough h = simp (← e, le-leb _ _ h)

@@ -7,46 +7,46 @@ use borrow.Author.Tests.{lt-ltb, le-ltb, lt-leb, le-leb, eq-eqb, ne-eqb, eqb-tru
 use Rattle.octets.proofs.Tests.{split}
 use Rattle.frame.specs.Frame.{lengthCode}
 use Rattle.account.specs.Terms.{cost}
-use Rattle.account.specs.Account.{termsOf, withCredit, valid, creditAt}
-use Rattle.account.specs.Step.{Stepped, step, judged, policed}
+use Rattle.account.specs.Account.{termsOf, holding, valid, creditAt}
+use Rattle.account.specs.Step.{Stepped, stepped, judged, policed}
 use Rattle.account.specs.declared.Account.{Account}
 use Rattle.account.specs.declared.Outcome.the-variants.{Forwarded, Short, Late, Refused}
 
 module _ (a : Account) (n t : ℕ) where
   -- by the code r of the length
-  pub police-length : (r : ℕ) → r ≡ lengthCode n → (r ≡ 0 → ⊥) → step (Refused r) a ≡ policed a n t
+  pub police-length : (r : ℕ) → r ≡ lengthCode n → (r ≡ 0 → ⊥) → stepped (Refused r) a ≡ policed a n t
   unfolding policed
   police-length r e h = simp (e, ne-eqb (lengthCode n) 0 (rw e at h))
 
   module _ (z : lengthCode n ≡ 0) where
-    pub police-invalid : valid a ≡ false → step (Refused 10) a ≡ policed a n t
+    pub police-invalid : valid a ≡ false → stepped (Refused 10) a ≡ policed a n t
     unfolding policed
     police-invalid v = simp (eq-eqb _ _ z, v)
 
     module _ (v : valid a ≡ true) where
-      pub police-late : t < a .last → step (Late (a .credit)) a ≡ policed a n t
+      pub police-late : t < a .last → stepped (Late (a .credit)) a ≡ policed a n t
       unfolding policed
       police-late h = simp (eq-eqb _ _ z, v, lt-ltb _ _ h)
 
       -- a frame that reaches the account: c is the topped-up credit, x the cost, b the account that is given
       module _ (h : a .last ≤ t) (c x : ℕ) (p : c ≡ creditAt a t) (q : x ≡ cost (termsOf a) n) (b : Account) where
-        pub police-short : c < x → b ≡ withCredit a c t → step (Short c) b ≡ policed a n t
+        pub police-short : c < x → b ≡ holding a c t → stepped (Short c) b ≡ policed a n t
         unfolding policed judged
         police-short l e = simp (eq-eqb _ _ z, v, le-ltb _ _ h, ← p, ← q, lt-leb _ _ l, e)
 
-        pub police-forwarded : x ≤ c → b ≡ withCredit a (c - x) t → step (Forwarded (c - x)) b ≡ policed a n t
+        pub police-forwarded : x ≤ c → b ≡ holding a (c - x) t → stepped (Forwarded (c - x)) b ≡ policed a n t
         unfolding policed judged
         police-forwarded l e = simp (eq-eqb _ _ z, v, le-ltb _ _ h, ← p, ← q, le-leb _ _ l, e)
 
   -- by cases: what holds of each answer, and of the step where it is that answer
   pub by-step : (P : Stepped → Type 0)
-      → ((lengthCode n ≡ 0 → ⊥) → P (step (Refused (lengthCode n)) a))
-      → (lengthCode n ≡ 0 → valid a ≡ false → P (step (Refused 10) a))
-      → (lengthCode n ≡ 0 → valid a ≡ true → t < a .last → P (step (Late (a .credit)) a))
+      → ((lengthCode n ≡ 0 → ⊥) → P (stepped (Refused (lengthCode n)) a))
+      → (lengthCode n ≡ 0 → valid a ≡ false → P (stepped (Refused 10) a))
+      → (lengthCode n ≡ 0 → valid a ≡ true → t < a .last → P (stepped (Late (a .credit)) a))
       → (lengthCode n ≡ 0 → valid a ≡ true → a .last ≤ t → creditAt a t < cost (termsOf a) n
-      → P (step (Short (creditAt a t)) (withCredit a (creditAt a t) t)))
+      → P (stepped (Short (creditAt a t)) (holding a (creditAt a t) t)))
       → (lengthCode n ≡ 0 → valid a ≡ true → a .last ≤ t → cost (termsOf a) n ≤ creditAt a t
-      → P (step (Forwarded (creditAt a t - cost (termsOf a) n)) (withCredit a (creditAt a t - cost (termsOf a) n) t)))
+      → P (stepped (Forwarded (creditAt a t - cost (termsOf a) n)) (holding a (creditAt a t - cost (termsOf a) n) t)))
       → P (policed a n t)
   by-step P f g h i j =
       split (eqb (lengthCode n) 0)
@@ -62,7 +62,7 @@ module _ (a : Account) (n t : ℕ) where
       (λ e. let m = eqb-false _ _ e in rw (← police-length (lengthCode n) refl m) (f m))
 
   -- a step changes the credit and the last time alone
-  pub policed-keeps : withCredit a (policed a n t .account .credit) (policed a n t .account .last) ≡ policed a n t .account
+  pub policed-keeps : holding a (policed a n t .account .credit) (policed a n t .account .last) ≡ policed a n t .account
   policed-keeps =
-      by-step (λ q. withCredit a (q .account .credit) (q .account .last) ≡ q .account)
+      by-step (λ q. holding a (q .account .credit) (q .account .last) ≡ q .account)
       (λ _. refl) (λ _ _. refl) (λ _ _ _. refl) (λ _ _ _ _. refl) (λ _ _ _ _. refl)

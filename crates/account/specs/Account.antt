@@ -7,34 +7,32 @@ use Rattle.frame.specs.Frame.{lengthCode}
 use Rattle.account.specs.Terms.{Terms, inLimits, rate, capacity, cost}
 use Rattle.account.specs.declared.Account.{Account}
 
+-- the configured values of an account, and the account of such values with a credit and a last time
 abbrev pub termsOf : Account → Terms
 termsOf a = record { smax = a .smax; k = a .k; jitter = a .jitter; mode = a .mode }
 
 abbrev pub accountOf : Terms → ℕ → ℕ → Account
 accountOf p c t = record { smax = p .smax; k = p .k; jitter = p .jitter; mode = p .mode; credit = c; last = t }
 
--- the account with another credit and last time
-abbrev pub withCredit : Account → ℕ → ℕ → Account
-withCredit a c t = accountOf (termsOf a) c t
+-- the account when it holds credit c and its last time is t
+abbrev pub holding : Account → ℕ → ℕ → Account
+holding a c t = accountOf (termsOf a) c t
 
--- as loading leaves it: credit at capacity, last time 0
+-- a fresh account, as loading leaves it: full, and last time 0
 abbrev pub loaded : Terms → Account
 loaded p = accountOf p (capacity p) 0
 
--- code 10 doesn't fit the account: its values keep their limits, and its credit is at most the capacity
+-- code 10 doesn't fit the account ("Codes, in order of checking"): values within limits, credit at most the capacity
 unfoldable pub valid : Account → Bool
 valid a = inLimits (termsOf a) && leb (a .credit) (capacity (termsOf a))
 
--- a credit topped up at time t: the smaller of a capacity and credit + Smax x (t - last)
-abbrev pub toppedCredit : ℕ → Account → ℕ → ℕ
-toppedCredit c a t = min c (a .credit + rate (termsOf a) * (t - a .last))
-
--- that of the account's own capacity
+-- the credit topped up to time t: what the elapsed time adds to it, never above the capacity
 unfoldable pub creditAt : Account → ℕ → ℕ
-creditAt a t = toppedCredit (capacity (termsOf a)) a t
+creditAt a t = min (capacity (termsOf a)) (a .credit + rate (termsOf a) * (t - a .last))
 
--- ---- the methods: where the policing step would refuse what they are given, capacity and cost are 0 and a top-up
--- changes nothing
+-- ---- the methods. An account, a length or a time that the policing step turns away has capacity 0 and cost 0, and is
+-- topped up by nothing
+
 unfoldable pub capacityOf : Account → ℕ
 capacityOf a = if valid a then capacity (termsOf a) else 0
 
@@ -42,11 +40,12 @@ unfoldable pub costOf : Account → ℕ → ℕ
 costOf a n = if eqb (lengthCode n) 0 && valid a then cost (termsOf a) n else 0
 
 unfoldable pub toppedUp : Account → ℕ → Account
-toppedUp a t = if valid a && leb (a .last) t then withCredit a (creditAt a t) t else a
+toppedUp a t = if valid a && leb (a .last) t then holding a (creditAt a t) t else a
 
--- document 01 leaves the debit of a short credit free: it changes nothing
+-- a debit takes the cost; a short credit stays, as the step keeps it for a dropped frame. Document 01 doesn't speak of this
+-- method alone
 unfoldable pub debited : Account → ℕ → Account
 debited a n =
     if leb (costOf a n) (a .credit)
-    then withCredit a (a .credit - costOf a n) (a .last)
+    then holding a (a .credit - costOf a n) (a .last)
     else a

@@ -1,39 +1,32 @@
--- The starred cases of the bench sheet at the level of the policing step, as one table (document 01, "Bench sheet"):
--- the capacity, the steps that follow one another, and the step in frame mode.
-use Prim.Native.Nat.{ℕ, _^_, _-_}
-use mathlib.Core.List.{List, [], _∷_}
-use mathlib.Core.Option.{Option, some}
+-- The starred cases of the bench sheet at the level of the policing step, as one table (document 01, "Bench sheet").
+use Prim.Native.Nat.{ℕ, _+_, _^_, _-_}
+use mathlib.Core.List.{List, [], _∷_, map}
+use mathlib.Core.Option.{some}
 use mathlib.Core.Path.{_≡_}
-use Rattle.account.specs.Terms.{Terms}
-use Rattle.account.specs.Account.{loaded, capacityOf}
-use Rattle.account.specs.Step.{policed}
-use Rattle.account.specs.declared.Account.{Account}
+use Rattle.account.specs.Terms.{Terms, byteMode, frameMode}
+use Rattle.account.specs.Account.{loaded, accountOf, capacityOf, costOf, toppedUp}
+use Rattle.account.specs.Step.{Told}
+use Rattle.account.specs.Bucket.{reached, costs}
+use Rattle.account.specs.Rule.{Arrival, stepsTold, allowance}
 
--- a step, its code, and the credit that its answer carries
+-- a step and what it is to tell
 pub record Case : Type 0 where
-  pub octets : ℕ
-  pub time : ℕ
-  pub code : ℕ
-  pub credit : Option ℕ
+  pub arrival : Arrival
+  pub tells : Told
 
+-- octets, time, code and credit, in the sheet's order
 abbrev pub case : ℕ → ℕ → ℕ → ℕ → Case
-case n t code c = record { octets = n; time = t; code = code; credit = some c }
+case n t code c = record { arrival = record { octets = n; time = t }; tells = record { code = code; credit = some c } }
 
--- the steps of a table, each on the account that the step before gave, with the codes and credits that come back
-unfoldable pub answered : Account → List Case → List Case
-answered a [] = []
-answered a (c ∷ cs) =
-    record {
-      octets = c .octets;
-      time = c .time;
-      code = policed a (c .octets) (c .time) .says .code;
-      credit = policed a (c .octets) (c .time) .says .credit;
-    }
-    ∷ answered (policed a (c .octets) (c .time) .account) cs
+abbrev pub arrivals : List Case → List Arrival
+arrivals = map (λ c. c .arrival)
 
--- image P's account, by mode: Smax 200, BAG 1,000 us, J 500 us
-abbrev pub terms : ℕ → Terms
-terms mode = record { smax = 200; k = 0; jitter = 500; mode = mode }
+abbrev pub answers : List Case → List Told
+answers = map (λ c. c .tells)
+
+-- the account of image P, by mode
+abbrev pub termsP : ℕ → Terms
+termsP mode = record { smax = 200; k = 0; jitter = 500; mode = mode }
 
 -- cases 2 to 10
 abbrev pub byteCases : List Case
@@ -53,9 +46,13 @@ byteCases =
 abbrev pub frameCases : List Case
 frameCases = case 64 0 0 100000 ∷ []
 
--- case 1, cases 2 to 10, case 11
+-- case 1; cases 2 to 10; case 11; and of case 3 the cost, of case 4 the sum by the rule from the first frame, of case 10 the
+-- topped-up credit
 abbrev pub BenchTable : Type 0
 BenchTable =
-    _≡_ {A = ℕ × List Case × List Case}
-    (capacityOf (loaded (terms 0)), answered (loaded (terms 0)) byteCases, answered (loaded (terms 1)) frameCases)
-    (300000, byteCases, frameCases)
+    (capacityOf (loaded (termsP byteMode)) ≡ 300000)
+    × (stepsTold (loaded (termsP byteMode)) (arrivals byteCases) ≡ answers byteCases)
+    × (stepsTold (loaded (termsP frameMode)) (arrivals frameCases) ≡ answers frameCases)
+    × (costOf (loaded (termsP byteMode)) 200 ≡ 200000)
+    × (costs (reached 499 0 ∷ reached 0 200000 ∷ []) + 200000 ≡ allowance (termsP byteMode) 500)
+    × (toppedUp (accountOf (termsP byteMode) 0 1820) (2 ^ 64 - 1) .credit ≡ 300000)

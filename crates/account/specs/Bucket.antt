@@ -1,4 +1,5 @@
--- The rule of demand 3 for a bucket that refills at a steady rate: which frame passes, with no stored credit.
+-- The rule of demand 3 (document 01, "The terms of demand 3"), for any allowance of a time and with no stored credit. The
+-- account's allowance is in Rule.antt.
 use Prim.Native.Nat.{ℕ, suc, _+_, _-_, _≤_, _<_}
 use mathlib.Core.Bool.{Bool, true, _&&_}
 use mathlib.Core.Path.{_≡_}
@@ -22,18 +23,18 @@ unfoldable pub lastTime : List Reached → ℕ
 lastTime [] = 0
 lastTime (r ∷ past) = r .at
 
--- the rule for a frame at time t, from each frame of `past`: `spent` is the frame's own cost and what was forwarded
--- after all of `past`; `allow` is the allowance of a time
+-- the rule for a frame at time t, from each frame of `past`: `spent` is the frame's own cost and what was forwarded after all
+-- of `past`. No frame of `past` is later than t where the rule is asked: the frame would be late
 unfoldable pub holdsFrom : (ℕ → ℕ) → ℕ → ℕ → List Reached → Bool
 holdsFrom allow t spent [] = true
 holdsFrom allow t spent (r ∷ past) =
     leb (spent + r .forwarded) (allow (t - r .at)) && holdsFrom allow t (spent + r .forwarded) past
 
 -- the rule for a frame that costs x: from itself, and from each frame that reached the bucket earlier
-unfoldable pub ruleHolds : (ℕ → ℕ) → List Reached → ℕ → ℕ → Bool
-ruleHolds allow past x t = leb x (allow 0) && holdsFrom allow t x past
+unfoldable pub ruleHolds : (ℕ → ℕ) → ℕ → ℕ → List Reached → Bool
+ruleHolds allow t x past = leb x (allow 0) && holdsFrom allow t x past
 
--- ---- the rule read literally (document 01, "The terms of demand 3")
+-- ---- the rule read literally
 
 -- the sum of the costs forwarded
 unfoldable pub costs : List Reached → ℕ
@@ -44,14 +45,15 @@ costs (r ∷ past) = r .forwarded + costs past
 abbrev pub FromItself : (ℕ → ℕ) → ℕ → Type 0
 FromItself allow x = x ≤ allow 0
 
--- from frame j of `past`, the newest being 0: the costs of frames j, .., 0 and its own are within the allowance of
--- the time since
+-- from frame j of `past`, the newest being 0: the costs of frames j, .., 0 and its own are within the allowance of the time
+-- since frame j
 abbrev pub FromFrame : (ℕ → ℕ) → ℕ → ℕ → List Reached → ℕ → Type 0
 FromFrame allow t x past j = costs (take (suc j) past) + x ≤ allow (t - getD past j (reached 0 0) .at)
 
--- the test is that reading, for any allowance
+-- from itself and from every earlier frame
+abbrev pub FromEach : (ℕ → ℕ) → ℕ → ℕ → List Reached → Type 0
+FromEach allow t x past = FromItself allow x × ((j : ℕ) → j < length past → FromFrame allow t x past j)
+
+-- the test is that reading
 abbrev pub RuleRead : Type 0
-RuleRead =
-    (allow : ℕ → ℕ) (past : List Reached) (x t : ℕ)
-    → (ruleHolds allow past x t ≡ true)
-    ↔ (FromItself allow x × ((j : ℕ) → j < length past → FromFrame allow t x past j))
+RuleRead = (allow : ℕ → ℕ) (t x : ℕ) (past : List Reached) → (ruleHolds allow t x past ≡ true) ↔ FromEach allow t x past

@@ -1,4 +1,5 @@
--- What holds of the policing step and the methods for any account whatsoever; proved in proofs/Claims.antt.
+-- What holds of the policing step and the methods for any account whatsoever (document 01, "Credit, in whole units" and "Codes,
+-- in order of checking"); proved in proofs/Claims.antt.
 use Prim.Native.Nat.{ℕ, _-_, _≤_}
 use mathlib.Core.Bool.{true}
 use mathlib.Core.Logic.{_⊎_}
@@ -6,14 +7,20 @@ use mathlib.Core.Option.{some}
 use mathlib.Core.Path.{_≡_}
 use mathlib.Core.List.{[], _∷_, List·Memᴰ}
 use Rattle.account.specs.Terms.{Terms, inLimits, capacity, cost}
-use Rattle.account.specs.Account.{termsOf, withCredit, creditAt, toppedUp, debited}
+use Rattle.account.specs.Account.{termsOf, holding, creditAt, capacityOf, costOf, toppedUp, debited}
 use Rattle.account.specs.Step.{told, policed}
 use Rattle.account.specs.declared.Account.{Account}
 use Rattle.account.specs.declared.Outcome.{Outcome}
 
--- the largest capacity
+-- the largest capacity, and values that have it
+abbrev pub largestTerms : Terms
+largestTerms = record { smax = 1518; k = 7; jitter = 10000; mode = 1 }
+
 abbrev pub CapacityLargest : Type 0
-CapacityLargest = (p : Terms) → inLimits p ≡ true → capacity p ≤ 209484000
+CapacityLargest =
+    ((p : Terms) → inLimits p ≡ true → capacity p ≤ 209484000)
+    × (inLimits largestTerms ≡ true)
+    × (capacity largestTerms ≡ 209484000)
 
 -- two answers that tell the same are the same
 abbrev pub ToldApart : Type 0
@@ -23,7 +30,7 @@ ToldApart = (o q : Outcome) → told o ≡ told q → o ≡ q
 abbrev pub StepAnswers : Type 0
 StepAnswers = (a : Account) (n t : ℕ) → List·Memᴰ (policed a n t .says .code) (0 ∷ 1 ∷ 2 ∷ 8 ∷ 9 ∷ 10 ∷ [])
 
--- a refusal other than 9 leaves the account as it was
+-- demand 1: a refusal other than 9 leaves the account as it was
 abbrev pub RefusedStepKeeps : Type 0
 RefusedStepKeeps =
     (a : Account) (n t : ℕ) → (policed a n t .says .code ≡ 0 → ⊥) → (policed a n t .says .code ≡ 9 → ⊥)
@@ -33,13 +40,13 @@ RefusedStepKeeps =
 abbrev pub ShortStepTopsUp : Type 0
 ShortStepTopsUp =
     (a : Account) (n t : ℕ) → policed a n t .says .code ≡ 9
-    → (policed a n t .account ≡ withCredit a (creditAt a t) t) × (policed a n t .says .credit ≡ some (creditAt a t))
+    → (policed a n t .account ≡ holding a (creditAt a t) t) × (policed a n t .says .credit ≡ some (creditAt a t))
 
 -- 0 brings the account to the frame's time, topped up and less the cost, and tells the credit left
 abbrev pub ForwardedStepTakesCost : Type 0
 ForwardedStepTakesCost =
     (a : Account) (n t : ℕ) → policed a n t .says .code ≡ 0
-    → (policed a n t .account ≡ withCredit a (creditAt a t - cost (termsOf a) n) t)
+    → (policed a n t .account ≡ holding a (creditAt a t - cost (termsOf a) n) t)
     × (policed a n t .says .credit ≡ some (creditAt a t - cost (termsOf a) n))
     × (cost (termsOf a) n ≤ creditAt a t)
 
@@ -48,3 +55,13 @@ abbrev pub StepIsTopUpAndDebit : Type 0
 StepIsTopUpAndDebit =
     (a : Account) (n t : ℕ) → (policed a n t .says .code ≡ 0) ⊎ (policed a n t .says .code ≡ 9)
     → policed a n t .account ≡ debited (toppedUp a t) n
+
+-- where it refuses the octets, the account or the time, a method that is given that has nothing to give
+abbrev pub Rest : Account → ℕ → ℕ → ℕ → Type 0
+Rest a n t code =
+    ((code ≡ 1) ⊎ (code ≡ 2) → costOf a n ≡ 0)
+    × (code ≡ 10 → (capacityOf a ≡ 0) × (costOf a n ≡ 0) × (toppedUp a t ≡ a))
+    × (code ≡ 8 → toppedUp a t ≡ a)
+
+abbrev pub RefusedMethodsRest : Type 0
+RefusedMethodsRest = (a : Account) (n t : ℕ) → Rest a n t (policed a n t .says .code)

@@ -6,13 +6,13 @@ use lib.Dec.{ltb, leb, eqb}
 use Rattle.octets.specs.Choice.{if_then_else_}
 use Rattle.frame.specs.Frame.{lengthCode}
 use Rattle.account.specs.Terms.{cost}
-use Rattle.account.specs.Account.{termsOf, withCredit, valid, creditAt}
+use Rattle.account.specs.Account.{termsOf, holding, valid, creditAt}
 use Rattle.account.specs.declared.Account.{Account}
 use Rattle.account.specs.declared.Policed.{Policed}
 use Rattle.account.specs.declared.Outcome.{Outcome}
 use Rattle.account.specs.declared.Outcome.the-variants.{Forwarded, Short, Late, Refused}
 
--- what an answer tells: document 01's number, and the credit that it carries, if any
+-- what an answer tells: its number in the table of codes, and the credit that it carries, if any
 pub record Told : Type 0 where
   pub code : ℕ
   pub credit : Option ℕ
@@ -28,23 +28,24 @@ pub record Stepped : Type 0 where
   pub says : Told
   pub account : Account
 
-abbrev pub step : Outcome → Account → Stepped
-step o a = record { says = told o; account = a }
+abbrev pub stepped : Outcome → Account → Stepped
+stepped o a = record { says = told o; account = a }
 
-abbrev pub stepped : Policed → Stepped
-stepped r = step (r .outcome) (r .account)
+-- the same, of what the code gives
+abbrev pub steppedOf : Policed → Stepped
+steppedOf r = stepped (r .outcome) (r .account)
 
 -- a frame that costs x, with credit c held at time t: forwarded less the cost, or dropped with the credit kept
 unfoldable pub judged : Account → ℕ → ℕ → ℕ → Stepped
 judged a c x t =
     if leb x c
-    then step (Forwarded (c - x)) (withCredit a (c - x) t)
-    else step (Short c) (withCredit a c t)
+    then stepped (Forwarded (c - x)) (holding a (c - x) t)
+    else stepped (Short c) (holding a c t)
 
--- a frame of n octets at time t: 1 or 2 by the octets, then 10, 8, 9 or 0
+-- the step for a frame of n octets at time t: the length, the account, the time and then the credit decide
 unfoldable pub policed : Account → ℕ → ℕ → Stepped
 policed a n t =
-    if not (eqb (lengthCode n) 0) then step (Refused (lengthCode n)) a
-    else if not (valid a) then step (Refused 10) a
-    else if ltb t (a .last) then step (Late (a .credit)) a
+    if not (eqb (lengthCode n) 0) then stepped (Refused (lengthCode n)) a
+    else if not (valid a) then stepped (Refused 10) a
+    else if ltb t (a .last) then stepped (Late (a .credit)) a
     else judged a (creditAt a t) (cost (termsOf a) n) t

@@ -1,20 +1,23 @@
-// A bandwidth account and its policing step (ARINC 664P7 traffic policing). One credit unit is one octet divided by
-// the BAG in microseconds, so every sum is exact. All values are taken and given by value; `police_in_place` alone
+// A bandwidth account and its policing step (ARINC 664P7 traffic policing). Credit is counted in octets times the
+// microseconds of the BAG, so no sum is ever rounded. Accounts are taken and given by value; `police_in_place` alone
 // changes a record that is lent.
 ghost use mathlib.Core.Path.{_≡_};
 ghost use mathlib.Core.Bool.{true};
 ghost use Prim.Native.Nat.{_+_, _*_, _≤_, min};
 ghost use Rattle.frame.specs.Limits.{largestFrame};
-ghost use Rattle.account.specs.Terms.{largestK, bag, inLimits, rate, charged, cost};
-ghost use Rattle.account.specs.Account.{termsOf, withCredit, toppedCredit, capacityOf, costOf, toppedUp, debited};
-ghost use Rattle.account.specs.Step.{step, stepped, policed};
+ghost use Rattle.account.specs.Terms.{largestK, bag, inLimits, rate, capacity, charged, cost};
+ghost use Rattle.account.specs.Account.{termsOf, holding, creditAt, capacityOf, costOf, toppedUp, debited};
+ghost use Rattle.account.specs.Step.{stepped, steppedOf, policed};
 
+// The BAG of k 0, in microseconds.
 const SHORTEST_BAG: u32 = 1000;
 
+// The limits of k and of the jitter in microseconds; those of Smax are a frame's.
 const LARGEST_K: u8 = 7;
 
 const LARGEST_JITTER: u16 = 10000;
 
+// The modes: a frame costs by its own octets, or by Smax. No mode is above frame mode.
 const BYTE_MODE: u8 = 0;
 
 const FRAME_MODE: u8 = 1;
@@ -22,8 +25,11 @@ const FRAME_MODE: u8 = 1;
 // An elapsed time in which any rate but 0 adds more than a credit can hold.
 const LONG_ELAPSED: u64 = 4294967296;
 
+// Code 10.
 const UNSOUND: u8 = 10;
 
+// Configured values (Smax in octets, BAG of 2^k milliseconds, jitter in microseconds, mode), the credit, and the time
+// of the last frame that reached the account.
 pub struct Account {
     pub smax: u16,
     pub k: u8,
@@ -42,6 +48,7 @@ pub enum Outcome {
     Refused(u8),
 }
 
+// What a policing step gives: its answer, and the account after it.
 pub struct Policed {
     pub outcome: Outcome,
     pub account: Account,
@@ -55,7 +62,8 @@ fn bag_of(k: u8) -> u32
     SHORTEST_BAG << k
 }
 
-fn sooner(a: u64, b: u64) -> u64
+// The shorter of two times.
+fn shorter(a: u64, b: u64) -> u64
     ensures { λ r. ⌜ r ≡ min a b ⌝ }
 {
     if a <= b { a } else { b }
@@ -66,7 +74,7 @@ fn sooner(a: u64, b: u64) -> u64
 fn refilled(capacity: u32, credit: u32, rate: u32, elapsed: u64) -> u32
     ensures { λ r. ⌜ r ≡ min capacity (credit + rate * elapsed) ⌝ }
 {
-    let counted = sooner(elapsed, LONG_ELAPSED);
+    let counted = shorter(elapsed, LONG_ELAPSED);
     let held = credit as u64 + rate as u64 * counted;
     if capacity as u64 <= held {
         return capacity;
@@ -113,30 +121,32 @@ impl Account {
     }
 
     // The cost of a frame that the step doesn't refuse.
-    fn price(self, octets: usize) -> u32
+    fn frame_cost(self, octets: usize) -> u32
         requires { ⌜ inLimits (termsOf self) ≡ true ⌝ ∗ ⌜ octets ≤ largestFrame ⌝ }
         ensures { λ r. ⌜ r ≡ cost (termsOf self) octets ⌝ }
     {
         self.charged(octets as u32) * bag_of(self.k)
     }
 
-    // The topped-up credit at a time that is not before the last, in an account of that capacity.
-    fn credit_at(self, capacity: u32, time: u64) -> u32
-        requires { ⌜ self .last ≤ time ⌝ }
-        ensures { λ r. ⌜ r ≡ toppedCredit capacity self time ⌝ }
+    // The topped-up credit at a time that is not before the last; `full` is the account's capacity.
+    fn credit_at(self, full: u32, time: u64) -> u32
+        requires { ⌜ full ≡ capacity (termsOf self) ⌝ ∗ ⌜ self .last ≤ time ⌝ }
+        ensures { λ r. ⌜ r ≡ creditAt self time ⌝ }
     {
-        refilled(capacity, self.credit, self.rate(), time - self.last)
+        refilled(full, self.credit, self.rate(), time - self.last)
     }
 
-    fn with_credit(mut self, credit: u32, last: u64) -> Account
-        ensures { λ r. ⌜ r ≡ withCredit self credit last ⌝ }
+    // The account with another credit and last time.
+    fn holding(mut self, credit: u32, last: u64) -> Account
+        ensures { λ r. ⌜ r ≡ holding self credit last ⌝ }
     {
         self.credit = credit;
         self.last = last;
         self
     }
 
-    // The capacity; 0 where the policing step refuses the account.
+    // The capacity; 0 where the policing step refuses the account. A sound account has 64 x 1,000 or more, so 0 always
+    // means refused.
     pub fn capacity(self) -> u32
         ensures { λ r. ⌜ r ≡ capacityOf self ⌝ }
     {
@@ -160,7 +170,7 @@ impl Account {
         if self.capacity() == 0 {
             return 0;
         }
-        self.price(octets)
+        self.frame_cost(octets)
     }
 
     // The account brought to a time; unchanged where the policing step refuses the account or the time.
@@ -171,10 +181,11 @@ impl Account {
         if capacity == 0 {
             return self;
         }
-        if self.last > time {
+        let last = self.last;
+        if time < last {
             return self;
         }
-        self.with_credit(self.credit_at(capacity, time), time)
+        self.holding(self.credit_at(capacity, time), time)
     }
 
     // The account less a frame's cost; unchanged where the credit is short.
@@ -185,12 +196,12 @@ impl Account {
         if self.credit < cost {
             return self;
         }
-        self.with_credit(self.credit - cost, self.last)
+        self.holding(self.credit - cost, self.last)
     }
 
     // The policing step: the answer for a frame of so many octets at a time, and the account after it.
     pub fn police(self, octets: usize, time: u64) -> Policed
-        ensures { λ r. ⌜ stepped r ≡ policed self octets time ⌝ }
+        ensures { λ r. ⌜ steppedOf r ≡ policed self octets time ⌝ }
     {
         let code = frame::length_code(octets);
         if code != 0 {
@@ -213,24 +224,24 @@ impl Account {
             };
         }
         let held = self.credit_at(capacity, time);
-        let cost = self.price(octets);
+        let cost = self.frame_cost(octets);
         if held < cost {
             return Policed {
                 outcome: Outcome::Short(held),
-                account: self.with_credit(held, time),
+                account: self.holding(held, time),
             };
         }
         let left = held - cost;
         Policed {
             outcome: Outcome::Forwarded(left),
-            account: self.with_credit(left, time),
+            account: self.holding(left, time),
         }
     }
 }
 
 // The policing step on an account that is lent: the new credit and last time are stored in it.
 pub fn police_in_place(a: &mut Account, octets: usize, time: u64) -> Outcome
-    ensures { λ r. ⌜ step r (now (a .exit)) ≡ policed (now (a .entry)) octets time ⌝ }
+    ensures { λ r. ⌜ stepped r (now (a .exit)) ≡ policed (now (a .entry)) octets time ⌝ }
 {
     let p = Account::police(*a, octets, time);
     a.credit = p.account.credit;

@@ -1,13 +1,13 @@
 -- What holds of frame reading for any octets: its codes, what a refusal gives, and the payload's length. Assumes nothing.
-use Prim.Native.Nat.{ℕ, _+_, _-_, _≤_}
+use Prim.Native.Nat.{ℕ, _-_, _≤_}
 use mathlib.Core.Path.{_≡_, refl, sym, ap, _∙_}
-use mathlib.Core.List.{List, List·Memᴰ·head, List·Memᴰ·tail}
+use mathlib.Core.List.{List·Memᴰ·head, List·Memᴰ·tail}
 use native.Mathlib.Nat.{zero-add}
 use native.Mathlib.Omega.{arith}
 use lib.ListN.{length, drop, length-drop}
 use lib.Seq.{length-take-le}
-use Rattle.frame.specs.Frame.{lengthCode, sequencePlace, payloadStart}
-use Rattle.frame.specs.Claims.{ReadingAnswers, ReadingRefused, PayloadLength}
+use Rattle.frame.specs.Frame.{lengthCode, sequencePlace, payloadStart, payloadOf}
+use Rattle.frame.specs.Claims.{LengthLimits, ReadingAnswers, ReadingRefused, PayloadLength}
 use Rattle.frame.specs.declared.Header.{Header}
 use Rattle.frame.proofs.Frame.{by-length, within, header-code, header-refused, payload-refused, payload-read}
 
@@ -34,5 +34,10 @@ payload-length f z =
     let c : lengthCode (length f) ≡ 0 = sym (header-code f) ∙ z in
     let w = within (length f) c in
     let r : sequencePlace f - payloadStart ≤ length (drop payloadStart f) = simp length-drop (omega arith) in
-    ap (λ (xs : List ℕ). length xs + 19) (sym (payload-read f (lengthCode (length f)) refl (0, 0) c .0))
-    ∙ omega (arith, length-take-le (sequencePlace f - payloadStart) (drop payloadStart f) r)
+    let e : length (payloadOf f) ≡ length f - 5 - 14 =
+    ap length (sym (payload-read f (lengthCode (length f)) refl (0, 0) c .0)) ∙ length-take-le _ (drop payloadStart f) r in
+    (omega arith, λ h. omega arith, λ h. omega arith)
+
+pub length-limits : LengthLimits
+unfolding lengthCode
+length-limits = (refl, refl, refl, refl)

@@ -8,7 +8,7 @@ use Rattle.octets.specs.Numbers.{numberAt}
 use Rattle.frame.specs.Limits.{smallestFrame, largestFrame}
 use Rattle.frame.specs.declared.Header.{Header}
 
--- codes 1 and 2 ("Codes, in order of checking"), 0 where neither fits
+-- the code that a length gets ("Codes, in order of checking", 1 and 2); 0 where neither fits
 unfoldable pub lengthCode : ℕ → ℕ
 lengthCode n = if ltb n smallestFrame then 1 else if ltb largestFrame n then 2 else 0
 
@@ -20,9 +20,12 @@ constantField f = numberAt 4 f 0
 abbrev pub linkNumber : List ℕ → ℕ
 linkNumber f = numberAt 2 f 4
 
--- the sequence number is the fifth octet from the end
+-- the sequence number is one octet, with the four of the frame check sequence behind it
+abbrev pub sequenceFromEnd : ℕ
+sequenceFromEnd = 5
+
 abbrev pub sequencePlace : List ℕ → ℕ
-sequencePlace f = length f - 5
+sequencePlace f = length f - sequenceFromEnd
 
 abbrev pub sequenceNumber : List ℕ → ℕ
 sequenceNumber f = getD f (sequencePlace f) 0
@@ -38,14 +41,14 @@ headerOf f =
 abbrev pub payloadStart : ℕ
 payloadStart = 14
 
--- the payload: from octet 14 to the octet before the sequence number; none after a refusal
+-- the payload: from there to the octet before the sequence number; none after a refusal
 unfoldable pub payloadOf : List ℕ → List ℕ
 payloadOf f =
     if eqb (lengthCode (length f)) 0
     then take (sequencePlace f - payloadStart) (drop payloadStart f)
     else []
 
--- where the payload stands, as a block of memory and an offset in it: octet 14 of the frame, or the frame's own start
--- after a refusal
+-- where the payload stands, as a block of memory and an offset in it: that far into the frame, or where the frame itself
+-- starts after a refusal
 unfoldable pub payloadPlace : ℕ × ℕ → List ℕ → ℕ × ℕ
 payloadPlace p f = if eqb (lengthCode (length f)) 0 then (p .0, payloadStart + p .1) else p

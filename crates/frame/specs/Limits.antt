@@ -1,4 +1,4 @@
--- The sizes of a frame, from the destination address to the frame check sequence (document 01, "The frame").
+-- The sizes that a frame can have, frame check sequence and all (document 01, "The frame").
 use Prim.Native.Nat.{ℕ}
 
 abbrev pub smallestFrame : ℕ

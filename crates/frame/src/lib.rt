@@ -4,14 +4,20 @@ ghost use mathlib.Core.Path.{_≡_};
 ghost use denote.Ref.{ptr};
 ghost use Rattle.frame.specs.Frame.{lengthCode, constantField, linkNumber, headerOf, payloadOf, payloadPlace};
 
+// The sizes that a frame can have.
 pub const SMALLEST_FRAME: usize = 64;
 
 pub const LARGEST_FRAME: usize = 1518;
 
-// The payload's first octet; how far before the frame's end the sequence number stands.
+// The payload's first octet, and how far before the frame's end the sequence number stands.
 const PAYLOAD_START: usize = 14;
 
-const SEQUENCE_BEFORE_END: usize = 5;
+const SEQUENCE_FROM_END: usize = 5;
+
+// Codes 1 and 2.
+const TOO_SHORT: u8 = 1;
+
+const TOO_LONG: u8 = 2;
 
 // What a frame says besides its payload: the code of reading it, its virtual link and its sequence number.
 pub struct Header {
@@ -25,22 +31,22 @@ pub fn length_code(octets: usize) -> u8
     ensures { λ r. ⌜ r ≡ lengthCode octets ⌝ }
 {
     if octets < SMALLEST_FRAME {
-        return 1;
+        return TOO_SHORT;
     }
     if LARGEST_FRAME < octets {
-        return 2;
+        return TOO_LONG;
     }
     0
 }
 
-// The constant field of any octets whatsoever, whatever their length.
+// The constant field of octets of any length; a missing octet counts as 0.
 pub fn constant_field(frame: &[u8]) -> u32
     ensures { λ r. ⌜ r ≡ constantField (now (frame .entry)) ⌝ }
 {
     octets::u32_at(frame, 0)
 }
 
-// The virtual link number of any octets whatsoever, whatever their length.
+// The virtual link number of octets of any length; a missing octet counts as 0.
 pub fn link_number(frame: &[u8]) -> u16
     ensures { λ r. ⌜ r ≡ linkNumber (now (frame .entry)) ⌝ }
 {
@@ -63,7 +69,7 @@ pub fn head(frame: &[u8]) -> Header
     Header {
         code: 0,
         link: link_number(frame),
-        sequence: octets::octet_at(frame, n - SEQUENCE_BEFORE_END),
+        sequence: octets::octet_at(frame, n - SEQUENCE_FROM_END),
     }
 }
 
@@ -76,6 +82,6 @@ pub fn payload(frame: &[u8]) -> &[u8]
     if length_code(n) != 0 {
         return &frame[0..0];
     }
-    let end = n - SEQUENCE_BEFORE_END;
+    let end = n - SEQUENCE_FROM_END;
     &frame[PAYLOAD_START..end]
 }

@@ -1,4 +1,5 @@
--- Runs of octets laid into a longer run.
+-- Runs of octets laid into a longer run: what a write leaves in the room that it is lent. Document 01 has no rule of its own
+-- for it; a write that has no room leaves everything as it was.
 use Prim.Native.Nat.{ℕ, _+_}
 use mathlib.Core.List.{List, _++_}
 use lib.ListN.{length, take, drop}

@@ -42,8 +42,8 @@ use denote.Triple.Walked.{says, Stays, stay-ref, stay-none, walkOf, AllGo, goes-
 use denote.Exit.{yes}
 use Rattle.account.specs.declared.Account.{Account}
 use Rattle.account.specs.declared.Policed.{Policed}
-use Rattle.account.specs.Account.{withCredit}
-use Rattle.account.specs.Step.{policed, Stepped, step, stepped}
+use Rattle.account.specs.Account.{holding}
+use Rattle.account.specs.Step.{policed, Stepped, stepped, steppedOf}
 use Rattle.account.proofs.Account as T
 use Rattle.account.proofs.Account.Laws as T′
 use Rattle.account.proofs.Policed as P
@@ -71,8 +71,8 @@ module _ {M : Type 1} (𝓤 : URA M) (H : Heap 𝓤) (A : Atoms 𝓤) (at-mem : 
   abbrev Police : Contract 𝓤
   Police = tripleOf 𝓤 H A police.signature (police.spec 𝓤 H A at-mem run)
 
-  policed-of : (h : Account) (n t : ℕ) (r : Policed) → ent 𝓤 (ensured 𝓤 H A police.ended (police.clauses 𝓤 H A at-mem run) tt (h, (n, (t, tt))) tt r) (fact 𝓤 (stepped r ≡ policed h n t))
-  policed-of h n t r = exE 𝓤 _ (λ ws. snd∗ 𝓤 (sem 𝓤 H A (lasts police.ended tt (h, (n, (t, tt))) ws)) (fact 𝓤 (stepped r ≡ policed h n t)))
+  policed-of : (h : Account) (n t : ℕ) (r : Policed) → ent 𝓤 (ensured 𝓤 H A police.ended (police.clauses 𝓤 H A at-mem run) tt (h, (n, (t, tt))) tt r) (fact 𝓤 (steppedOf r ≡ policed h n t))
+  policed-of h n t r = exE 𝓤 _ (λ ws. snd∗ 𝓤 (sem 𝓤 H A (lasts police.ended tt (h, (n, (t, tt))) ws)) (fact 𝓤 (steppedOf r ≡ policed h n t)))
 
 module _ {M : Type 1} (𝓤 : URA M) (H : Heap 𝓤) (A : Atoms 𝓤) (W : Given 𝓤 H A) (at-mem : Memory → SProp 𝓤) (run : Routine → Fun 𝓤) (κ : Lft) (q : Share) (b o : ℕ) (γ : GName) (h : Account) (n t : ℕ) (n-fits : n < 2 ^ 64) (t-fits : t < 2 ^ 64) where
   abbrev x : Arg
@@ -92,7 +92,7 @@ module _ {M : Type 1} (𝓤 : URA M) (H : Heap 𝓤) (A : Atoms 𝓤) (W : Given
 
   -- the account with the credit and the last time of the one that came back
   abbrev next : Policed → Account
-  next r = withCredit h (r .account .credit) (r .account .last)
+  next r = holding h (r .account .credit) (r .account .last)
 
   -- what is known of the parts of a `Policed`
   same : (r : Policed) (v : Val) → Is P.the-row r (v ∷ []) → v ∷ [] ≡ ofP r
@@ -120,13 +120,13 @@ module _ {M : Type 1} (𝓤 : URA M) (H : Heap 𝓤) (A : Atoms 𝓤) (W : Given
   abbrev Post : Val → SProp 𝓤
   Post = walkOf 𝓤 H A f.ended stayed (f.clauses 𝓤 H A at-mem run) .post (((κ, tt), (q, tt), tt, x, at), tt)
 
-  stored : (r : Policed) → stepped r ≡ policed h n t → step (r .outcome) (next r) ≡ policed h n t
+  stored : (r : Policed) → steppedOf r ≡ policed h n t → stepped (r .outcome) (next r) ≡ policed h n t
   stored r e =
       let f : policed h n t .account ≡ r .account = ap (λ (q : Stepped). q .account) (sym e) in
-      ap (λ (q : Stepped). step (r .outcome) (withCredit h (q .account .credit) (q .account .last))) e
-      ∙ ap (step (r .outcome)) (policed-keeps h n t ∙ f) ∙ e
+      ap (λ (q : Stepped). stepped (r .outcome) (holding h (q .account .credit) (q .account .last))) e
+      ∙ ap (stepped (r .outcome)) (policed-keeps h n t ∙ f) ∙ e
 
-  exits : (r : Policed) → stepped r ≡ policed h n t → Is O.the-row (r .outcome) (ofO r) → ent 𝓤 (sep 𝓤 (A .obs γ (T.the-row .coded .code (next r))) (sep 𝓤 (A .bor κ (Body (mem T.the-row) b o γ)) (A .lft κ q))) (Post (only (ofO r)))
+  exits : (r : Policed) → steppedOf r ≡ policed h n t → Is O.the-row (r .outcome) (ofO r) → ent 𝓤 (sep 𝓤 (A .obs γ (T.the-row .coded .code (next r))) (sep 𝓤 (A .bor κ (Body (mem T.the-row) b o γ)) (A .lft κ q))) (Post (only (ofO r)))
   exits r e is =
       qed W (‵ (fobs γ (T.the-row .coded .code (next r))) ∷ ‵ (fbor κ (Body (mem T.the-row) b o γ)) ∷ ‵ (flft κ q) ∷ []) ∵
       suffices ! _ (ends-at 𝓤 H A f.ended stayed (f.clauses 𝓤 H A at-mem run) W (((κ, tt), (q, tt), tt, x, at), tt) (only (ofO r)) (r .outcome) (next r, (tt, (tt, tt))) (tt, (tt, (tt, tt)))) $
@@ -159,7 +159,7 @@ module _ {M : Type 1} (𝓤 : URA M) (H : Heap 𝓤) (A : Atoms 𝓤) (W : Given
         nothing ! $ use1 W (raw (Police 𝓤 H A at-mem run .pre to-police)) (goes-police was) $
         calls-at ! fm (Police 𝓤 H A at-mem run) known to-police (and-then ! (load ! (from ! (stop !)) (look ! 8 refl)) (and-then ! (load ! (from ! (stop !)) (look ! 14 refl)) (and-then ! (load ! (from ! (stop !)) (look ! 12 refl)) (no-more !)))) (λ v.
         use1 W (later (some (λ (r : Policed). (‵ ftrue ⊛ ‵ (P.the-row .own r (v ∷ []))) ⊛ raw (ensured 𝓤 H A police.ended (police.clauses 𝓤 H A at-mem run) tt (h, (n, (t, tt))) tt r)))) (id⊢ 𝓤 _) $ await ! tt $ pick ! (λ r.
-        split ! $ move ! (1 ∷ []) $ use1 W (raw (fact 𝓤 (stepped r ≡ policed h n t))) (policed-of 𝓤 H A at-mem run h n t r) $ heard ! (stepped r ≡ policed h n t) (λ e. split ! $ drop ! $
+        split ! $ move ! (1 ∷ []) $ use1 W (raw (fact 𝓤 (steppedOf r ≡ policed h n t))) (policed-of 𝓤 H A at-mem run h n t r) $ heard ! (steppedOf r ≡ policed h n t) (λ e. split ! $ drop ! $
         peeks ! P.the-row (Is P.the-row) (shows 𝓤 H A P.the-row) r (v ∷ []) (λ is.
         land ! (from ! (stop !)) (init ! 10 refl (LL.lawful P.the-type P′.the-laws 𝓤 H A W .typed r _ is .0)) $
         rewrite ! 10 (λ (u : Val). ‵ (fat fullShare P′.mir l₄ 0 u)) (ap only (same r v is)) refl $ drop ! $

@@ -29,13 +29,19 @@ capacity-requires c κs = search needs
 returns-2 : tie.Need-returns-2
 returns-2 c = cost-invalid _ _ (good (c .before .before)) (none-invalid _ _ (c .before .capacity .ensures) (c .if2 .taken))
 
-price-requires : tie.Need-price-requires
-price-requires c κs = (valid-limits _ (sound c), within _ (good (c .before .before)) .1)
+frame-cost-requires : tie.Need-frame-cost-requires
+frame-cost-requires c κs = (valid-limits _ (sound c), within _ (good (c .before .before)) .1)
 
 returns-3 : tie.Need-returns-3
-returns-3 c = c .price .ensures ∙ cost-valid _ _ (good (c .before .before .before)) (sound (c .before))
+returns-3 c = c .frame-cost .ensures ∙ cost-valid _ _ (good (c .before .before .before)) (sound (c .before))
 
 pub cost-spec : {M : Type 1} → statement M
 cost-spec =
     tie.close
-    (tie.spec length-code-requires returns capacity-requires returns-2 price-requires returns-3)
+    (tie.spec
+    length-code-requires
+    returns
+    capacity-requires
+    returns-2
+    frame-cost-requires
+    returns-3)

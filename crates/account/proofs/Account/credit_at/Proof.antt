@@ -1,6 +1,5 @@
 -- `credit_at`: the refill of the time since. Assumes nothing.
-use mathlib.Core.Path.{ap, _∙_}
-use Prim.Native.Nat.{ℕ, _+_, _-_, _*_, min}
+use Rattle.account.proofs.Methods.{credit-at}
 use borrow.Author.Needs.{needs}
 use Rattle.account.proofs.Account.credit_at.Statement.{statement}
 use Rattle.account.proofs.Account.credit_at.Tie as tie
@@ -15,9 +14,7 @@ refilled-requires : tie.Need-refilled-requires
 refilled-requires c κs = search needs
 
 returns : tie.Need-returns
-returns c =
-    c .refilled .ensures
-    ∙ ap (λ (r : ℕ). min (c .before .before .before .args .capacity) (c .before .before .before .args .self .credit + r * (c .before .before .before .args .time - c .before .before .before .args .self .last))) (c .before .before .rate .ensures)
+returns c = credit-at _ _ _ _ _ (c .before .before .before .pre .0) (c .before .before .rate .ensures) (c .refilled .ensures)
 
 pub credit-at-spec : {M : Type 1} → statement M
 credit-at-spec = tie.close (tie.spec rate-requires sub-refilled refilled-requires returns)

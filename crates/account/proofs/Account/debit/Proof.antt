@@ -11,11 +11,11 @@ cost-requires c κs = search needs
 returns : tie.Need-returns
 returns c = debit-short _ _ _ (c .before .before .cost .ensures) (c .if1 .taken)
 
-with-credit-requires : tie.Need-with-credit-requires
-with-credit-requires c κs = search needs
+holding-requires : tie.Need-holding-requires
+holding-requires c κs = search needs
 
 returns-2 : tie.Need-returns-2
-returns-2 c = c .with-credit .ensures ∙ debit-enough _ _ _ (c .before .before .before .before .cost .ensures) (c .before .before .if1 .left)
+returns-2 c = c .holding .ensures ∙ debit-enough _ _ _ (c .before .before .before .before .cost .ensures) (c .before .before .if1 .left)
 
 pub debit-spec : {M : Type 1} → statement M
-debit-spec = tie.close (tie.spec cost-requires returns with-credit-requires returns-2)
+debit-spec = tie.close (tie.spec cost-requires returns holding-requires returns-2)

@@ -3,8 +3,8 @@ use mathlib.Core.Bool.{true}
 use mathlib.Core.Path.{_≡_, sym, _∙_}
 use Rattle.frame.specs.Frame.{lengthCode}
 use Rattle.frame.proofs.Frame.{within}
-use Rattle.account.specs.Account.{valid, creditAt}
-use Rattle.account.proofs.Methods.{none-invalid, some-valid, some-capacity, valid-limits, credit-at}
+use Rattle.account.specs.Account.{valid}
+use Rattle.account.proofs.Methods.{none-invalid, some-valid, some-capacity, valid-limits}
 use Rattle.account.proofs.Step.{police-length, police-invalid, police-late, police-short, police-forwarded}
 use borrow.Author.Needs.{needs}
 use Rattle.account.proofs.Account.police.Statement.{statement}
@@ -17,10 +17,6 @@ good c = sym (c .before .length-code .ensures) ∙ c .if1 .left
 -- past the second the account is valid
 sound : (c : tie.Else2) → valid (c .before .before .before .before .args .self) ≡ true
 sound c = some-valid _ _ (c .before .capacity .ensures) (c .if2 .left)
-
--- the credit held is the topped-up credit
-held : (c : tie.After-credit-at) → c .credit-at .result ≡ creditAt (c .before .before .before .before .before .before .before .args .self) (c .before .before .before .before .before .before .before .args .time)
-held c = credit-at _ _ _ _ (some-capacity _ _ (c .before .before .before .before .capacity .ensures) (c .before .before .before .if2 .left)) (c .credit-at .ensures)
 
 length-code-requires : tie.Need-length-code-requires
 length-code-requires c κs = search needs
@@ -38,26 +34,26 @@ returns-3 : tie.Need-returns-3
 returns-3 c = police-late _ _ _ (good (c .before .before .before .before)) (sound (c .before .before)) (c .if3 .taken)
 
 credit-at-requires : tie.Need-credit-at-requires
-credit-at-requires c κs = search needs
+credit-at-requires c κs = (some-capacity _ _ (c .before .before .before .capacity .ensures) (c .before .before .if2 .left), c .if3 .left)
 
-price-requires : tie.Need-price-requires
-price-requires c κs = (valid-limits _ (sound (c .before .before .before)), within _ (good (c .before .before .before .before .before)) .1)
+frame-cost-requires : tie.Need-frame-cost-requires
+frame-cost-requires c κs = (valid-limits _ (sound (c .before .before .before)), within _ (good (c .before .before .before .before .before)) .1)
 
-with-credit-requires : tie.Need-with-credit-requires
-with-credit-requires c κs = search needs
+holding-requires : tie.Need-holding-requires
+holding-requires c κs = search needs
 
 returns-4 : tie.Need-returns-4
 returns-4 c =
-    police-short _ _ _ (good (c .before .before .before .before .before .before .before .before)) (sound (c .before .before .before .before .before .before)) (c .before .before .before .before .if3 .left) _ _ (held (c .before .before .before)) (c .before .before .price .ensures) _
-    (c .before .if4 .taken) (c .with-credit .ensures)
+    police-short _ _ _ (good (c .before .before .before .before .before .before .before .before)) (sound (c .before .before .before .before .before .before)) (c .before .before .before .before .if3 .left) _ _ (c .before .before .before .credit-at .ensures) (c .before .before .frame-cost .ensures) _
+    (c .before .if4 .taken) (c .holding .ensures)
 
-with-credit-requires-2 : tie.Need-with-credit-requires-2
-with-credit-requires-2 c κs = search needs
+holding-requires-2 : tie.Need-holding-requires-2
+holding-requires-2 c κs = search needs
 
 returns-5 : tie.Need-returns-5
 returns-5 c =
-    police-forwarded _ _ _ (good (c .before .before .before .before .before .before .before .before)) (sound (c .before .before .before .before .before .before)) (c .before .before .before .before .if3 .left) _ _ (held (c .before .before .before)) (c .before .before .price .ensures) _
-    (c .before .if4 .left) (c .with-credit2 .ensures)
+    police-forwarded _ _ _ (good (c .before .before .before .before .before .before .before .before)) (sound (c .before .before .before .before .before .before)) (c .before .before .before .before .if3 .left) _ _ (c .before .before .before .credit-at .ensures) (c .before .before .frame-cost .ensures) _
+    (c .before .if4 .left) (c .holding2 .ensures)
 
 pub police-spec : {M : Type 1} → statement M
 police-spec =
@@ -69,8 +65,8 @@ police-spec =
     returns-2
     returns-3
     credit-at-requires
-    price-requires
-    with-credit-requires
+    frame-cost-requires
+    holding-requires
     returns-4
-    with-credit-requires-2
+    holding-requires-2
     returns-5)

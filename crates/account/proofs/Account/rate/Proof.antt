@@ -1,6 +1,6 @@
 -- `rate`: Smax. Assumes nothing.
 use mathlib.Core.Path.{refl}
-use Rattle.account.specs.Terms.{rate}
+use Rattle.account.specs.Terms.{charge, rate}
 use borrow.Author.Needs.{needs}
 use Rattle.account.proofs.Account.rate.Statement.{statement}
 use Rattle.account.proofs.Account.rate.Tie as tie
@@ -9,7 +9,7 @@ cast-result : tie.Need-cast-result
 cast-result c = search needs
 
 returns : tie.Need-returns
-unfolding rate
+unfolding charge rate
 returns c = refl
 
 pub rate-spec : {M : Type 1} → statement M

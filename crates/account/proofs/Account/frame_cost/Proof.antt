@@ -1,8 +1,8 @@
--- `price`: the product fits by the limits. Assumes nothing.
+-- `frame_cost`: the product fits by the limits. Assumes nothing.
 use Rattle.account.proofs.Limits.{limits, product-is, product-fits}
 use borrow.Author.Needs.{needs}
-use Rattle.account.proofs.Account.price.Statement.{statement}
-use Rattle.account.proofs.Account.price.Tie as tie
+use Rattle.account.proofs.Account.frame_cost.Statement.{statement}
+use Rattle.account.proofs.Account.frame_cost.Tie as tie
 
 cast-charged : tie.Need-cast-charged
 cast-charged c = search needs
@@ -19,5 +19,6 @@ mul-result c = record { fits = product-fits _ _ _ _ (c .before .charged .ensures
 returns : tie.Need-returns
 returns c = product-is _ _ _ _ (c .before .charged .ensures) (c .bag-of .ensures)
 
-pub price-spec : {M : Type 1} → statement M
-price-spec = tie.close (tie.spec cast-charged charged-requires bag-of-requires mul-result returns)
+pub frame-cost-spec : {M : Type 1} → statement M
+frame-cost-spec =
+    tie.close (tie.spec cast-charged charged-requires bag-of-requires mul-result returns)
