@@ -1,5 +1,5 @@
 -- Laws of runs laid into a longer run. Assumes nothing.
-use Prim.Native.Nat.{ℕ, _+_, _/_, _%_, _^_, _≤_, _<_}
+use Prim.Native.Nat.{ℕ, _+_, _-_, _/_, _%_, _^_, _≤_, _<_}
 use mathlib.Core.Path.{_≡_, sym, ap, _∙_}
 use mathlib.Core.Bool.{Bool, true, not}
 use mathlib.Core.List.{List, [], _∷_, _++_, append-assoc}
@@ -8,7 +8,7 @@ use native.Mathlib.Nat.{add-assoc, mod-eq-of-lt, div-lt-iff-lt-mul}
 use native.Mathlib.Numerals.{add-one}
 use lib.Dec.{leb}
 use lib.ListN.{length, getD, take, drop, set, length-append, length-drop, List·getD-append}
-use lib.Seq.{length-take-le, take-at, drop-append-add, drop-drop, getD-append-add, sets-eq, paste, take-length}
+use lib.Seq.{length-take-le, take-at, drop-append-add, drop-drop, getD-append-add, getD-take, getD-drop, sets-eq, paste, take-length}
 use borrow.Author.Tests.{leb-true, leb-false, le-leb, lt-leb}
 use Rattle.octets.specs.Numbers.{octetsOf}
 use Rattle.octets.specs.Runs.{put}
@@ -44,6 +44,34 @@ module _ (d : List ℕ) (at : ℕ) (xs : List ℕ) where
       ∙ List·getD-append (take at d ++ xs) (drop (at + length xs) d) 0 (at + k) (omega (arith, length-front h))
       ∙ ap (λ (a : ℕ). getD (take at d ++ xs) (a + k) 0) (sym e)
       ∙ getD-append-add (take at d) xs k 0
+
+  -- what stands before it and behind it is as it was
+  pub getD-put-before : (k : ℕ) → k < at → getD (put d at xs) k 0 ≡ getD d k 0
+  getD-put-before k l =
+      split (leb (at + length xs) (length d))
+      (λ e.
+      let h = leb-true _ _ e in
+      let a : length (take at d) ≡ at = length-take-le at d (omega arith) in
+      ap (λ (r : List ℕ). getD r k 0) (put-fits d at xs h)
+      ∙ List·getD-append (take at d ++ xs) (drop (at + length xs) d) 0 k (omega (arith, length-front h))
+      ∙ List·getD-append (take at d) xs 0 k (omega arith)
+      ∙ getD-take at d k 0 l)
+      (λ e. ap (λ (r : List ℕ). getD r k 0) (put-no-room (leb-false _ _ e)))
+
+  pub getD-put-behind : (k : ℕ) → at + length xs ≤ k → getD (put d at xs) k 0 ≡ getD d k 0
+  getD-put-behind k l =
+      split (leb (at + length xs) (length d))
+      (λ e.
+      let h = leb-true _ _ e in
+      let j : ℕ = k - (at + length xs) in
+      let f : length (take at d ++ xs) + j ≡ k = omega (arith, length-front h) in
+      let b : at + length xs + j ≡ k = omega arith in
+      ap (λ (r : List ℕ). getD r k 0) (put-fits d at xs h)
+      ∙ ap (λ (i : ℕ). getD (take at d ++ xs ++ drop (at + length xs) d) i 0) (sym f)
+      ∙ getD-append-add (take at d ++ xs) (drop (at + length xs) d) j 0
+      ∙ getD-drop (at + length xs) d j 0
+      ∙ ap (λ (i : ℕ). getD d i 0) b)
+      (λ e. ap (λ (r : List ℕ). getD r k 0) (put-no-room (leb-false _ _ e)))
 
   -- a run laid right behind another
   pub put-beside : (ys : List ℕ) → at + length xs + length ys ≤ length d → put (put d at xs) (at + length xs) ys ≡ put d at (xs ++ ys)

@@ -1,3 +1,4 @@
 pub mod Choice
+pub mod Claims
 pub mod Numbers
 pub mod Runs

@@ -1,0 +1,36 @@
+// Frame reading at both sides of both sizes: octets, then code, link, sequence number and length of the payload.
+use super::say;
+
+// A frame of `n` octets on link 258 with sequence number 77.
+fn read(n: usize) {
+    let mut octets = [0u8; 1519];
+    octets[4] = 1;
+    octets[5] = 2;
+    if 5 <= n {
+        if n <= 1519 {
+            octets[n - 5] = 77;
+            show(&octets[0..n]);
+        }
+    }
+}
+
+fn show(octets: &[u8]) {
+    let h = frame::head(octets);
+    let part = frame::payload(octets);
+    say::text(b"frame");
+    say::number(octets.len() as u64);
+    say::text(b" ->");
+    say::number(h.code as u64);
+    say::number(h.link as u64);
+    say::number(h.sequence as u64);
+    say::number(part.len() as u64);
+    say::end();
+}
+
+pub fn run() {
+    say::text(b"# frame octets -> code link sequence payload\n");
+    read(63);
+    read(64);
+    read(1518);
+    read(1519);
+}

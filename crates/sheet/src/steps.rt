@@ -1,0 +1,141 @@
+// Policing steps, each on the account that the one before gave: octets and time, then code and credit, `-` for none.
+use super::say;
+use account::Account;
+use account::Outcome;
+
+const LAST_TIME: u64 = 18446744073709551615;
+
+fn told(code: u64, credit: u64) {
+    say::number(code);
+    say::number(credit);
+}
+
+fn show(outcome: Outcome) {
+    match outcome {
+        Outcome::Forwarded(credit) => told(0, credit as u64),
+        Outcome::Short(credit) => told(9, credit as u64),
+        Outcome::Late(credit) => told(8, credit as u64),
+        Outcome::Refused(code) => {
+            say::number(code as u64);
+            say::text(b" -");
+        }
+    }
+}
+
+fn step(a: Account, octets: usize, time: u64) -> Account {
+    let p = a.police(octets, time);
+    let outcome = p.outcome;
+    say::text(b"step");
+    say::number(octets as u64);
+    say::number(time);
+    say::text(b" ->");
+    show(outcome);
+    say::end();
+    p.account
+}
+
+fn account_of(smax: u16, k: u8, jitter: u16, mode: u8, credit: u32) -> Account {
+    Account {
+        smax,
+        k,
+        jitter,
+        mode,
+        credit,
+        last: 0,
+    }
+}
+
+// The account of image P, by mode.
+fn image_p(mode: u8) -> Account {
+    account_of(200, 0, 500, mode, 300000)
+}
+
+fn figure(words: &[u8], n: u32) {
+    say::text(words);
+    say::number(n as u64);
+    say::end();
+}
+
+// Bench sheet, cases 1 to 11.
+fn bench() {
+    say::text(b"# bench sheet 1 to 11\n");
+    figure(b"capacity", image_p(0).capacity());
+    let a = step(image_p(0), 200, 0);
+    let b = step(a, 200, 499);
+    let c = step(b, 200, 500);
+    let d = step(c, 200, 499);
+    let e = step(d, 200, 1499);
+    let f = step(e, 200, 1500);
+    let g = step(f, 64, 1500);
+    let h = step(g, 64, 1820);
+    step(h, 200, LAST_TIME);
+    step(image_p(1), 64, 0);
+}
+
+// Code 9 stores the time, so an earlier stamp is late afterwards; an equal one is not.
+fn short_stores() {
+    say::text(b"# code 9 stores credit and time\n");
+    let a = step(image_p(0), 200, 0);
+    let b = step(a, 200, 499);
+    let c = step(b, 64, 100);
+    step(c, 199, 499);
+}
+
+// Both sides of both frame sizes.
+fn sizes() {
+    say::text(b"# sizes\n");
+    let a = account_of(1518, 7, 10000, 0, 209484000);
+    figure(b"capacity", a.capacity());
+    step(a, 63, 0);
+    step(a, 64, 0);
+    step(a, 1518, 0);
+    step(a, 1519, 0);
+    figure(b"cost 63", a.cost(63));
+    figure(b"cost 64", a.cost(64));
+    figure(b"cost 1518", a.cost(1518));
+    figure(b"cost 1519", a.cost(1519));
+}
+
+// Both sides of each limit of an account's values: 0 or 9 within, 10 outside.
+fn limits() {
+    say::text(b"# limits: Smax, k, jitter, mode, credit\n");
+    step(account_of(63, 0, 0, 0, 0), 64, 0);
+    step(account_of(64, 0, 0, 0, 64000), 64, 0);
+    step(account_of(1518, 0, 0, 0, 0), 64, 0);
+    step(account_of(1519, 0, 0, 0, 0), 64, 0);
+    step(account_of(64, 7, 0, 0, 0), 64, 0);
+    step(account_of(64, 8, 0, 0, 0), 64, 0);
+    step(account_of(64, 0, 10000, 0, 0), 64, 0);
+    step(account_of(64, 0, 10001, 0, 0), 64, 0);
+    step(account_of(64, 0, 0, 1, 0), 64, 0);
+    step(account_of(64, 0, 0, 2, 0), 64, 0);
+    step(account_of(64, 0, 0, 0, 64001), 64, 0);
+}
+
+// The methods by themselves: an unsound account or an earlier time changes nothing, a short credit stays.
+fn methods() {
+    say::text(b"# methods\n");
+    let empty = image_p(0).debit(200).debit(100);
+    figure(b"debit 200, 100", empty.credit);
+    figure(b"debit 64 more", empty.debit(64).credit);
+    let topped = empty.top_up(320);
+    figure(b"top up to 320", topped.credit);
+    figure(b"top up to 319", topped.top_up(319).credit);
+    figure(b"top up to 1820", topped.top_up(1820).credit);
+    figure(
+        b"top up, unsound",
+        account_of(63, 0, 0, 0, 7).top_up(1).credit,
+    );
+    figure(
+        b"capacity, unsound",
+        account_of(200, 0, 500, 0, 300001).capacity(),
+    );
+}
+
+pub fn run() {
+    bench();
+    short_stores();
+    sizes();
+    limits();
+    methods();
+}
