@@ -1,9 +1,12 @@
-// Frame reading at both sides of both sizes: octets, then code, link, sequence number and length of the payload.
+// Frame reading at both sides of both sizes: octets, then code, link, sequence number and length of the payload; behind
+// a bar the constant field and the link number that the octets hold, whatever the code.
 use super::say;
 
-// A frame of `n` octets on link 258 with sequence number 77.
+// A frame of `n` octets with constant field 3, 0, 0, 9, on link 258, with sequence number 77.
 fn read(n: usize) {
     let mut octets = [0u8; 1519];
+    octets[0] = 3;
+    octets[3] = 9;
     octets[4] = 1;
     octets[5] = 2;
     if 5 <= n {
@@ -24,11 +27,14 @@ fn show(octets: &[u8]) {
     say::number(h.link as u64);
     say::number(h.sequence as u64);
     say::number(part.len() as u64);
+    say::text(b" |");
+    say::number(frame::constant_field(octets) as u64);
+    say::number(frame::link_number(octets) as u64);
     say::end();
 }
 
 pub fn run() {
-    say::text(b"# frame octets -> code link sequence payload\n");
+    say::text(b"# frame octets -> code link sequence payload | constant link\n");
     read(63);
     read(64);
     read(1518);
