@@ -56,19 +56,28 @@ fn figure(words: &[u8], n: u32) {
     say::end();
 }
 
+// Bench sheet, cases 2 to 6 and 7 to 10, which follow one another.
+fn bench_first(a: Account) -> Account {
+    let b = step(a, 200, 0);
+    let c = step(b, 200, 499);
+    let d = step(c, 200, 500);
+    let e = step(d, 200, 499);
+    step(e, 200, 1499)
+}
+
+fn bench_second(a: Account) {
+    let b = step(a, 200, 1500);
+    let c = step(b, 64, 1500);
+    let d = step(c, 64, 1820);
+    step(d, 200, LAST_TIME);
+}
+
 // Bench sheet, cases 1 to 11.
 fn bench() {
     say::text(b"# bench sheet 1 to 11\n");
     figure(b"capacity", image_p(0).capacity());
-    let a = step(image_p(0), 200, 0);
-    let b = step(a, 200, 499);
-    let c = step(b, 200, 500);
-    let d = step(c, 200, 499);
-    let e = step(d, 200, 1499);
-    let f = step(e, 200, 1500);
-    let g = step(f, 64, 1500);
-    let h = step(g, 64, 1820);
-    step(h, 200, LAST_TIME);
+    let a = bench_first(image_p(0));
+    bench_second(a);
     step(image_p(1), 64, 0);
 }
 
@@ -90,38 +99,44 @@ fn sizes() {
     step(a, 64, 0);
     step(a, 1518, 0);
     step(a, 1519, 0);
+    costs(a);
+}
+
+fn costs(a: Account) {
     figure(b"cost 63", a.cost(63));
     figure(b"cost 64", a.cost(64));
     figure(b"cost 1518", a.cost(1518));
     figure(b"cost 1519", a.cost(1519));
 }
 
+// A step of 64 octets at 0 on an account of these values.
+fn fresh(smax: u16, k: u8, jitter: u16, mode: u8, credit: u32) {
+    step(account_of(smax, k, jitter, mode, credit), 64, 0);
+}
+
 // Both sides of each limit of an account's values: 0 or 9 within, 10 outside.
 fn limits() {
     say::text(b"# limits: Smax, k, jitter, mode, credit\n");
-    step(account_of(63, 0, 0, 0, 0), 64, 0);
-    step(account_of(64, 0, 0, 0, 64000), 64, 0);
-    step(account_of(1518, 0, 0, 0, 0), 64, 0);
-    step(account_of(1519, 0, 0, 0, 0), 64, 0);
-    step(account_of(64, 7, 0, 0, 0), 64, 0);
-    step(account_of(64, 8, 0, 0, 0), 64, 0);
-    step(account_of(64, 0, 10000, 0, 0), 64, 0);
-    step(account_of(64, 0, 10001, 0, 0), 64, 0);
-    step(account_of(64, 0, 0, 1, 0), 64, 0);
-    step(account_of(64, 0, 0, 2, 0), 64, 0);
-    step(account_of(64, 0, 0, 0, 64001), 64, 0);
+    fresh(63, 0, 0, 0, 0);
+    fresh(64, 0, 0, 0, 64000);
+    fresh(1518, 0, 0, 0, 0);
+    fresh(1519, 0, 0, 0, 0);
+    fresh(64, 7, 0, 0, 0);
+    fresh(64, 8, 0, 0, 0);
+    fresh(64, 0, 10000, 0, 0);
+    fresh(64, 0, 10001, 0, 0);
+    fresh(64, 0, 0, 1, 0);
+    fresh(64, 0, 0, 2, 0);
+    fresh(64, 0, 0, 0, 64001);
 }
 
-// The methods by themselves: an unsound account or an earlier time changes nothing, a short credit stays.
+// The methods by themselves: a short credit stays, an earlier time or an unsound account changes nothing.
 fn methods() {
     say::text(b"# methods\n");
     let empty = image_p(0).debit(200).debit(100);
     figure(b"debit 200, 100", empty.credit);
     figure(b"debit 64 more", empty.debit(64).credit);
-    let topped = empty.top_up(320);
-    figure(b"top up to 320", topped.credit);
-    figure(b"top up to 319", topped.top_up(319).credit);
-    figure(b"top up to 1820", topped.top_up(1820).credit);
+    top_ups(empty.top_up(320));
     figure(
         b"top up, unsound",
         account_of(63, 0, 0, 0, 7).top_up(1).credit,
@@ -130,6 +145,12 @@ fn methods() {
         b"capacity, unsound",
         account_of(200, 0, 500, 0, 300001).capacity(),
     );
+}
+
+fn top_ups(topped: Account) {
+    figure(b"top up to 320", topped.credit);
+    figure(b"top up to 319", topped.top_up(319).credit);
+    figure(b"top up to 1820", topped.top_up(1820).credit);
 }
 
 pub fn run() {
