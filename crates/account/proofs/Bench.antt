@@ -4,10 +4,10 @@ use Rattle.frame.specs.Frame.{lengthCode}
 use Rattle.account.specs.Terms.{inLimits, bag, charge, rate, capacity, charged, cost}
 use Rattle.account.specs.Account.{valid, creditAt, capacityOf, costOf, toppedUp}
 use Rattle.account.specs.Step.{judged, policed}
-use Rattle.account.specs.Bucket.{costs}
-use Rattle.account.specs.Rule.{stepsTold, allowance}
+use Rattle.account.specs.Bucket.{lastTime, holdsFrom, ruleHolds, costs}
+use Rattle.account.specs.Rule.{accountAfter, stepsTold, allowance, ruleArrived, ruleStep, rulePast}
 use Rattle.account.specs.Bench.{BenchTable}
 
 pub bench-table : BenchTable
-unfolding lengthCode inLimits bag charge rate capacity charged cost valid creditAt capacityOf costOf toppedUp judged policed costs stepsTold allowance
-bench-table = (refl, refl, refl, refl, refl, refl)
+unfolding lengthCode inLimits bag charge rate capacity charged cost valid creditAt capacityOf costOf toppedUp judged policed lastTime holdsFrom ruleHolds costs accountAfter stepsTold allowance ruleArrived ruleStep rulePast
+bench-table = (refl, refl, refl, refl, refl, refl, refl)

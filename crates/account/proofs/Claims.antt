@@ -1,19 +1,20 @@
 -- What holds of the policing step and the methods for any account. Assumes nothing.
-use Prim.Native.Nat.{ℕ, _-_, _≤_}
+use Prim.Native.Nat.{ℕ, _-_, _≤_, _<_}
 use mathlib.Core.Bool.{true, cond}
 use mathlib.Core.Logic.{_⊎_, ⊎-elim}
 use mathlib.Core.Option.{Option, none, some}
 use mathlib.Core.Path.{_≡_, refl, sym, ap, _∙_}
 use mathlib.Core.List.{[], _∷_, List·Memᴰ, List·Memᴰ·head, List·Memᴰ·tail}
+use native.Mathlib.Nat.{le-trans}
 use native.Mathlib.Omega.{arith}
-use lib.Dec.{eqb}
+use lib.Dec.{eqb, lit≤}
 use Rattle.frame.specs.Frame.{lengthCode}
 use Rattle.frame.proofs.Frame.{by-length}
 use Rattle.account.specs.Terms.{inLimits, bag, charge, rate, capacity, cost}
 use Rattle.account.specs.Account.{termsOf, holding, valid, creditAt, costOf, toppedUp, debited}
 use Rattle.account.specs.Step.{Told, told}
-use Rattle.account.specs.Claims.{CapacityLargest, ToldApart, StepAnswers, RefusedStepKeeps, ShortStepTopsUp}
-use Rattle.account.specs.Claims.{ForwardedStepTakesCost, StepIsTopUpAndDebit, Rest, RefusedMethodsRest}
+use Rattle.account.specs.Claims.{CapacityLargest, TermsLimits, ToldApart, StepAnswers, RefusedStepKeeps, ShortStepTopsUp}
+use Rattle.account.specs.Claims.{ForwardedStepTakesCost, StepIsTopUpAndDebit, Tells, RefusedStepTells, Rest, RefusedMethodsRest}
 use Rattle.account.specs.declared.Account.{Account}
 use Rattle.account.specs.declared.Outcome.{Outcome}
 use Rattle.account.specs.declared.Outcome.the-variants.{Forwarded, Short, Late, Refused}
@@ -24,7 +25,11 @@ use Rattle.account.proofs.Step.{by-step}
 
 pub capacity-largest : CapacityLargest
 unfolding inLimits bag charge rate capacity
-capacity-largest = (λ p ok. capacity-high p (limits p ok), refl, refl)
+capacity-largest = (λ p ok. le-trans (capacity-high p (limits p ok)) (lit≤ tt), refl, refl)
+
+pub terms-limits : TermsLimits
+unfolding inLimits bag charge rate capacity valid
+terms-limits = (refl, refl, refl, refl)
 
 -- an answer, from what it tells
 heard : Told → Outcome
@@ -74,11 +79,11 @@ refused-step-keeps a n t =
 
 pub short-step-tops-up : ShortStepTopsUp
 short-step-tops-up a n t =
-    by-step a n t (λ q. q .says .code ≡ 9 → (q .account ≡ holding a (creditAt a t) t) × (q .says .credit ≡ some (creditAt a t)))
+    by-step a n t (λ q. q .says .code ≡ 9 → (q .account ≡ holding a (creditAt a t) t) × (q .says .credit ≡ some (creditAt a t)) × (creditAt a t < cost (termsOf a) n))
     (λ m e. absurd (length-refuses n m (λ x. x ≡ 9 → ⊥) (λ f. omega arith) (λ f. omega arith) e))
     (λ _ _ e. absurd (omega arith))
     (λ _ _ _ e. absurd (omega arith))
-    (λ _ _ _ _ _. (refl, refl))
+    (λ _ _ _ l _. (refl, refl, l))
     (λ _ _ _ _ e. absurd (omega arith))
 
 pub forwarded-step-takes-cost : ForwardedStepTakesCost
@@ -118,6 +123,19 @@ step-is-top-up-and-debit a n t =
     (λ _ _ _. neither 8 0 9 (λ e. omega arith) (λ e. omega arith))
     (λ z v h l _. debit-short (topped a n t z v h) n _ (cost-is a n t z v h) l ∙ topped-up a n t z v h)
     (λ z v h l _. debit-enough (topped a n t z v h) n _ (cost-is a n t z v h) l ∙ topped-up a n t z v h)
+
+-- a code that is none of 1, 2 and 10
+none-of : (x : ℕ) {P : Type 0} → (x ≡ 1 → ⊥) → (x ≡ 2 → ⊥) → (x ≡ 10 → ⊥) → (x ≡ 1) ⊎ ((x ≡ 2) ⊎ (x ≡ 10)) → P
+none-of x f g h e = absurd (⊎-elim f (⊎-elim g h) e)
+
+pub refused-step-tells : RefusedStepTells
+refused-step-tells a n t =
+    by-step a n t (λ q. Tells a t (q .says))
+    (λ m. (λ e. absurd (length-refuses n m (λ x. x ≡ 8 → ⊥) (λ f. omega arith) (λ f. omega arith) e), λ _. refl))
+    (λ _ _. (λ e. absurd (omega arith), λ _. refl))
+    (λ _ _ l. (λ _. (refl, l), none-of 8 (λ e. omega arith) (λ e. omega arith) (λ e. omega arith)))
+    (λ _ _ _ _. (λ e. absurd (omega arith), none-of 9 (λ e. omega arith) (λ e. omega arith) (λ e. omega arith)))
+    (λ _ _ _ _. (λ e. absurd (omega arith), none-of 0 (λ e. omega arith) (λ e. omega arith) (λ e. omega arith)))
 
 -- where the step refuses, the methods rest
 pub refused-methods-rest : RefusedMethodsRest

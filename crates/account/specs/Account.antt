@@ -30,8 +30,7 @@ valid a = inLimits (termsOf a) && leb (a .credit) (capacity (termsOf a))
 unfoldable pub creditAt : Account → ℕ → ℕ
 creditAt a t = min (capacity (termsOf a)) (a .credit + rate (termsOf a) * (t - a .last))
 
--- ---- the methods. An account, a length or a time that the policing step turns away has capacity 0 and cost 0, and is
--- topped up by nothing
+-- ---- the methods: each gives 0, or changes nothing, where the policing step refuses what that method is given
 
 unfoldable pub capacityOf : Account → ℕ
 capacityOf a = if valid a then capacity (termsOf a) else 0

@@ -1,13 +1,14 @@
 -- The starred cases of the bench sheet at the level of the policing step, as one table (document 01, "Bench sheet").
 use Prim.Native.Nat.{ℕ, _+_, _^_, _-_}
 use mathlib.Core.List.{List, [], _∷_, map}
+use lib.ListN.{take}
 use mathlib.Core.Option.{some}
 use mathlib.Core.Path.{_≡_}
 use Rattle.account.specs.Terms.{Terms, byteMode, frameMode}
-use Rattle.account.specs.Account.{loaded, accountOf, capacityOf, costOf, toppedUp}
+use Rattle.account.specs.Account.{loaded, capacityOf, costOf, toppedUp}
 use Rattle.account.specs.Step.{Told}
-use Rattle.account.specs.Bucket.{reached, costs}
-use Rattle.account.specs.Rule.{Arrival, stepsTold, allowance}
+use Rattle.account.specs.Bucket.{costs}
+use Rattle.account.specs.Rule.{Arrival, accountAfter, stepsTold, allowance, rulePast}
 
 -- a step and what it is to tell
 pub record Case : Type 0 where
@@ -46,13 +47,14 @@ byteCases =
 abbrev pub frameCases : List Case
 frameCases = case 64 0 0 100000 ∷ []
 
--- case 1; cases 2 to 10; case 11; and of case 3 the cost, of case 4 the sum by the rule from the first frame, of case 10 the
--- topped-up credit
+-- case 1; cases 2 to 10; case 11; and of case 3 the cost, of case 4 both sides of the rule from the first frame, of case 10
+-- the topped-up credit
 abbrev pub BenchTable : Type 0
 BenchTable =
     (capacityOf (loaded (termsP byteMode)) ≡ 300000)
     × (stepsTold (loaded (termsP byteMode)) (arrivals byteCases) ≡ answers byteCases)
     × (stepsTold (loaded (termsP frameMode)) (arrivals frameCases) ≡ answers frameCases)
     × (costOf (loaded (termsP byteMode)) 200 ≡ 200000)
-    × (costs (reached 499 0 ∷ reached 0 200000 ∷ []) + 200000 ≡ allowance (termsP byteMode) 500)
-    × (toppedUp (accountOf (termsP byteMode) 0 1820) (2 ^ 64 - 1) .credit ≡ 300000)
+    × (costs (rulePast (termsP byteMode) [] (take 2 (arrivals byteCases))) + 200000 ≡ 400000)
+    × (allowance (termsP byteMode) 500 ≡ 400000)
+    × (toppedUp (accountAfter (loaded (termsP byteMode)) (take 8 (arrivals byteCases))) (2 ^ 64 - 1) .credit ≡ 300000)

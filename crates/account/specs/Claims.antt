@@ -1,14 +1,14 @@
 -- What holds of the policing step and the methods for any account whatsoever (document 01, "Credit, in whole units" and "Codes,
 -- in order of checking"); proved in proofs/Claims.antt.
-use Prim.Native.Nat.{ℕ, _-_, _≤_}
-use mathlib.Core.Bool.{true}
+use Prim.Native.Nat.{ℕ, _-_, _≤_, _<_}
+use mathlib.Core.Bool.{true, false}
 use mathlib.Core.Logic.{_⊎_}
-use mathlib.Core.Option.{some}
+use mathlib.Core.Option.{none, some}
 use mathlib.Core.Path.{_≡_}
-use mathlib.Core.List.{[], _∷_, List·Memᴰ}
+use mathlib.Core.List.{[], _∷_, map, List·Memᴰ}
 use Rattle.account.specs.Terms.{Terms, inLimits, capacity, cost}
-use Rattle.account.specs.Account.{termsOf, holding, creditAt, capacityOf, costOf, toppedUp, debited}
-use Rattle.account.specs.Step.{told, policed}
+use Rattle.account.specs.Account.{termsOf, accountOf, holding, valid, creditAt, capacityOf, costOf, toppedUp, debited}
+use Rattle.account.specs.Step.{Told, told, policed}
 use Rattle.account.specs.declared.Account.{Account}
 use Rattle.account.specs.declared.Outcome.{Outcome}
 
@@ -21,6 +21,21 @@ CapacityLargest =
     ((p : Terms) → inLimits p ≡ true → capacity p ≤ 209484000)
     × (inLimits largestTerms ≡ true)
     × (capacity largestTerms ≡ 209484000)
+
+-- each limit of the values at both sides; and a credit at the capacity, and one above it
+abbrev pub termsWith : ℕ → ℕ → ℕ → ℕ → Terms
+termsWith smax k jitter mode = record { smax = smax; k = k; jitter = jitter; mode = mode }
+
+abbrev pub TermsLimits : Type 0
+TermsLimits =
+    (map inLimits
+    (termsWith 63 0 0 0 ∷ termsWith 1519 0 0 0 ∷ termsWith 64 8 0 0 ∷ termsWith 64 0 10001 0 ∷ termsWith 64 0 0 2 ∷ [])
+    ≡ false ∷ false ∷ false ∷ false ∷ false ∷ [])
+    × (map inLimits
+    (termsWith 64 0 0 0 ∷ termsWith 1518 0 0 0 ∷ termsWith 64 7 0 0 ∷ termsWith 64 0 10000 0 ∷ termsWith 64 0 0 1 ∷ [])
+    ≡ true ∷ true ∷ true ∷ true ∷ true ∷ [])
+    × (valid (accountOf (termsWith 64 0 0 0) 64000 0) ≡ true)
+    × (valid (accountOf (termsWith 64 0 0 0) 64001 0) ≡ false)
 
 -- two answers that tell the same are the same
 abbrev pub ToldApart : Type 0
@@ -40,7 +55,9 @@ RefusedStepKeeps =
 abbrev pub ShortStepTopsUp : Type 0
 ShortStepTopsUp =
     (a : Account) (n t : ℕ) → policed a n t .says .code ≡ 9
-    → (policed a n t .account ≡ holding a (creditAt a t) t) × (policed a n t .says .credit ≡ some (creditAt a t))
+    → (policed a n t .account ≡ holding a (creditAt a t) t)
+    × (policed a n t .says .credit ≡ some (creditAt a t))
+    × (creditAt a t < cost (termsOf a) n)
 
 -- 0 brings the account to the frame's time, topped up and less the cost, and tells the credit left
 abbrev pub ForwardedStepTakesCost : Type 0
@@ -56,7 +73,16 @@ StepIsTopUpAndDebit =
     (a : Account) (n t : ℕ) → (policed a n t .says .code ≡ 0) ⊎ (policed a n t .says .code ≡ 9)
     → policed a n t .account ≡ debited (toppedUp a t) n
 
--- where it refuses the octets, the account or the time, a method that is given that has nothing to give
+-- 8 tells the credit held, of a time before the last; 1, 2 and 10 tell no credit
+abbrev pub Tells : Account → ℕ → Told → Type 0
+Tells a t w =
+    (w .code ≡ 8 → (w .credit ≡ some (a .credit)) × (t < a .last))
+    × ((w .code ≡ 1) ⊎ ((w .code ≡ 2) ⊎ (w .code ≡ 10)) → w .credit ≡ none)
+
+abbrev pub RefusedStepTells : Type 0
+RefusedStepTells = (a : Account) (n t : ℕ) → Tells a t (policed a n t .says)
+
+-- a method gives 0, or changes nothing, where the step refuses what that method is given
 abbrev pub Rest : Account → ℕ → ℕ → ℕ → Type 0
 Rest a n t code =
     ((code ≡ 1) ⊎ (code ≡ 2) → costOf a n ≡ 0)

@@ -43,7 +43,7 @@ shortestBag = 1000
 unfoldable pub bag : ℕ → ℕ
 bag k = shortestBag * 2 ^ k
 
--- what is charged for n octets on the account: these octets and nothing beside
+-- what is charged for n octets on the account: these octets and nothing beside, in either mode
 unfoldable pub charge : Terms → ℕ → ℕ
 charge p n = n
 
@@ -55,9 +55,10 @@ rate p = charge p (p .smax)
 unfoldable pub capacity : Terms → ℕ
 capacity p = rate p * (bag (p .k) + p .jitter)
 
--- Cost of a frame of n octets: octets x BAG in byte mode, Smax x BAG in frame mode
+-- what is charged for a frame of n octets: its own octets in byte mode, Smax in frame mode
 unfoldable pub charged : Terms → ℕ → ℕ
 charged p n = charge p (if eqb (p .mode) byteMode then n else p .smax)
 
+-- Cost: that times BAG
 unfoldable pub cost : Terms → ℕ → ℕ
 cost p n = charged p n * bag (p .k)

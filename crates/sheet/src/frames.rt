@@ -33,7 +33,7 @@ fn show(octets: &[u8]) {
     say::end();
 }
 
-pub fn run() {
+pub(crate) fn run() {
     say::text(b"# frame octets -> code link sequence payload | constant link\n");
     read(63);
     read(64);

@@ -10,7 +10,7 @@ fn show(octets: &[u8]) {
     say::end();
 }
 
-pub fn run() {
+pub(crate) fn run() {
     say::text(b"# numbers\n");
     let mut b = [255u8; 12];
     octets::put_u64(&mut b, 1, 72623859790382856);

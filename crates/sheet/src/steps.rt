@@ -130,6 +130,19 @@ fn limits() {
     fresh(64, 0, 0, 0, 64001);
 }
 
+// Where several codes fit, the first in the order of checking: length, account, time.
+fn order() {
+    say::text(b"# order of codes\n");
+    let sound = image_p(0).top_up(500);
+    let mut unsound = sound;
+    unsound.mode = 2;
+    step(unsound, 63, 499);
+    step(unsound, 1519, 499);
+    step(unsound, 64, 499);
+    step(sound, 64, 499);
+    step(sound, 64, 500);
+}
+
 // The methods by themselves: a short credit stays, an earlier time or an unsound account changes nothing.
 fn methods() {
     say::text(b"# methods\n");
@@ -153,10 +166,11 @@ fn top_ups(topped: Account) {
     figure(b"top up to 1820", topped.top_up(1820).credit);
 }
 
-pub fn run() {
+pub(crate) fn run() {
     bench();
     short_stores();
     sizes();
     limits();
+    order();
     methods();
 }
