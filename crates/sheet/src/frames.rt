@@ -2,6 +2,32 @@
 // a bar the constant field and the link number that the octets hold, whatever the code.
 use super::say;
 
+// What frame reading says.
+fn reading(octets: &[u8]) {
+    let h = frame::head(octets);
+    let part = frame::payload(octets);
+    say::number(h.code as u64);
+    say::three(h.link as u64, h.sequence as u64, part.len() as u64);
+}
+
+// What the filter takes from the octets.
+fn fields(octets: &[u8]) {
+    say::text(b" |");
+    say::two(
+        frame::constant_field(octets) as u64,
+        frame::link_number(octets) as u64,
+    );
+}
+
+fn show(octets: &[u8]) {
+    say::text(b"frame");
+    say::number(octets.len() as u64);
+    say::text(b" ->");
+    reading(octets);
+    fields(octets);
+    say::end();
+}
+
 // A frame of `n` octets with constant field 3, 0, 0, 9, on link 258, with sequence number 77.
 fn read(n: usize) {
     let mut octets = [0u8; 1519];
@@ -15,22 +41,6 @@ fn read(n: usize) {
             show(&octets[0..n]);
         }
     }
-}
-
-fn show(octets: &[u8]) {
-    let h = frame::head(octets);
-    let part = frame::payload(octets);
-    say::text(b"frame");
-    say::number(octets.len() as u64);
-    say::text(b" ->");
-    say::number(h.code as u64);
-    say::number(h.link as u64);
-    say::number(h.sequence as u64);
-    say::number(part.len() as u64);
-    say::text(b" |");
-    say::number(frame::constant_field(octets) as u64);
-    say::number(frame::link_number(octets) as u64);
-    say::end();
 }
 
 pub(crate) fn run() {

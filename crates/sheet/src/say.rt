@@ -1,4 +1,4 @@
-// Printing: words, and numbers with a space before them.
+// Printing: words, and numbers with a space before each.
 use libc::STDOUT_FILENO;
 
 pub(crate) fn text(words: &[u8]) {
@@ -8,6 +8,16 @@ pub(crate) fn text(words: &[u8]) {
 pub(crate) fn number(n: u64) {
     text(b" ");
     io::print_decimal(STDOUT_FILENO, n);
+}
+
+pub(crate) fn two(a: u64, b: u64) {
+    number(a);
+    number(b);
+}
+
+pub(crate) fn three(a: u64, b: u64, c: u64) {
+    two(a, b);
+    number(c);
 }
 
 pub(crate) fn end() {

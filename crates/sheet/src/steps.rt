@@ -5,16 +5,11 @@ use account::Outcome;
 
 const LAST_TIME: u64 = 18446744073709551615;
 
-fn told(code: u64, credit: u64) {
-    say::number(code);
-    say::number(credit);
-}
-
 fn show(outcome: Outcome) {
     match outcome {
-        Outcome::Forwarded(credit) => told(0, credit as u64),
-        Outcome::Short(credit) => told(9, credit as u64),
-        Outcome::Late(credit) => told(8, credit as u64),
+        Outcome::Forwarded(credit) => say::two(0, credit as u64),
+        Outcome::Short(credit) => say::two(9, credit as u64),
+        Outcome::Late(credit) => say::two(8, credit as u64),
         Outcome::Refused(code) => {
             say::number(code as u64);
             say::text(b" -");
@@ -26,8 +21,7 @@ fn step(a: Account, octets: usize, time: u64) -> Account {
     let p = a.police(octets, time);
     let outcome = p.outcome;
     say::text(b"step");
-    say::number(octets as u64);
-    say::number(time);
+    say::two(octets as u64, time);
     say::text(b" ->");
     show(outcome);
     say::end();
