@@ -5,13 +5,13 @@ use Prim.Native.Nat.{ℕ, zero, suc, _+_, _-_, _*_, _≤_, _<_, min}
 use mathlib.Core.Bool.{Bool, true, _&&_, and-true}
 use mathlib.Core.Path.{_≡_, refl, sym, ap, ap₂, _∙_}
 use mathlib.Core.List.{List, [], _∷_}
-use native.Mathlib.Nat.{mul-add, mul-zero, sub-zero, le-trans}
+use native.Mathlib.Nat.{mul-add, mul-zero, le-trans}
 use native.Mathlib.Omega.{arith}
 use lib.Dec.{leb}
 use lib.ListN.{length}
 use borrow.Author.Tests.{leb-true, leb-false, le-leb, lt-leb}
 use Rattle.octets.proofs.Tests.{split, both, leb-same}
-use Rattle.account.specs.Bucket.{Reached, reached, lastTime, holdsFrom, ruleHolds, costs, FromFrame, RuleRead}
+use Rattle.account.specs.Bucket.{Reached, lastTime, holdsFrom, ruleHolds, costs, FromFrame, RuleRead}
 
 -- a minimum's test is both tests
 leb-min : (y a b : ℕ) → leb y (min a b) ≡ (leb y a && leb y b)
@@ -122,18 +122,6 @@ module _ (depth rate : ℕ) where
         ap (λ (b : Bool). b && holdsFrom allow t x past)
         (leb-same x (allow 0) x depth (λ e. omega (arith, linear 0, mul-zero rate)) (λ e. omega (arith, linear 0, mul-zero rate)))
         ∙ credit-test past t x s h
-
-  -- a frame that is forwarded, and one that is dropped
-  pub held-forwarded : (past : List Reached) (x t : ℕ) → held (reached t x ∷ past) ≡ topped past t - x
-  unfolding held topped
-  held-forwarded past x t = refl
-
-  pub held-dropped : (past : List Reached) (t : ℕ) → held (reached t 0 ∷ past) ≡ topped past t
-  unfolding held topped
-  held-dropped past t = sub-zero _
-
-  pub sound-next : (past : List Reached) (x t : ℕ) → Sound past → lastTime past ≤ t → x ≤ topped past t → Sound (reached t x ∷ past)
-  sound-next past x t s h l = (h, l, s)
 
 -- ---- the rule read literally
 module _ (allow : ℕ → ℕ) (t : ℕ) where

@@ -141,7 +141,7 @@ refused-step-tells a n t =
 pub refused-methods-rest : RefusedMethodsRest
 refused-methods-rest a n t =
     by-step a n t (λ q. Rest a n t (q .says .code))
-    (λ m. length-refuses n m (Rest a n t) (length 1 m (λ e. omega arith) (λ e. omega arith)) (length 2 m (λ e. omega arith) (λ e. omega arith)))
+    (λ m. length-refuses n m (Rest a n t) (by-octets 1 m (λ e. omega arith) (λ e. omega arith)) (by-octets 2 m (λ e. omega arith) (λ e. omega arith)))
     (λ z v. (
       λ _. sym (cost-invalid a n z v),
       λ _. (sym (capacity-not a v), sym (cost-invalid a n z v), sym (top-up-invalid a t v)),
@@ -151,5 +151,5 @@ refused-methods-rest a n t =
     (λ _ _ _ _. (neither 9 1 2 (λ e. omega arith) (λ e. omega arith), λ e. absurd (omega arith), λ e. absurd (omega arith)))
     (λ _ _ _ _. (neither 0 1 2 (λ e. omega arith) (λ e. omega arith), λ e. absurd (omega arith), λ e. absurd (omega arith)))
   where
-    length : (x : ℕ) → (lengthCode n ≡ 0 → ⊥) → (x ≡ 10 → ⊥) → (x ≡ 8 → ⊥) → Rest a n t x
-    length x m f g = (λ _. sym (cost-refused a n _ refl m), λ e. absurd (f e), λ e. absurd (g e))
+    by-octets : (x : ℕ) → (lengthCode n ≡ 0 → ⊥) → (x ≡ 10 → ⊥) → (x ≡ 8 → ⊥) → Rest a n t x
+    by-octets x m f g = (λ _. sym (cost-refused a n _ refl m), λ e. absurd (f e), λ e. absurd (g e))

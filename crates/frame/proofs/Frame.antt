@@ -6,7 +6,7 @@ use native.Mathlib.Nat.{zero-add}
 use native.Mathlib.Omega.{arith}
 use lib.Dec.{ltb, eqb}
 use lib.ListN.{length, take, drop}
-use borrow.Author.Tests.{ltb-true, ltb-false, lt-ltb, le-ltb, eq-eqb, ne-eqb}
+use borrow.Author.Tests.{ltb-true, ltb-false, lt-ltb, le-ltb, eq-eqb, ne-eqb, eqb-true}
 use Rattle.octets.proofs.Tests.{split}
 use Rattle.frame.specs.Limits.{smallestFrame, largestFrame}
 use Rattle.frame.specs.declared.Header.{Header}
@@ -79,5 +79,5 @@ pub header-code : (f : List ℕ) → headerOf f .code ≡ lengthCode (length f)
 unfolding headerOf
 header-code f =
     split (eqb (lengthCode (length f)) 0)
-    (λ e. simp e (sym (borrow.Author.Tests.eqb-true _ _ e)))
+    (λ e. simp e (sym (eqb-true _ _ e)))
     (λ e. simp e)

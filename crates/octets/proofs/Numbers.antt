@@ -3,9 +3,9 @@ use Prim.Native.Nat.{ℕ, zero, suc, _+_, _*_, _/_, _%_, _^_, _≤_, _<_}
 use mathlib.Core.Path.{_≡_, refl, sym, ap, ap₂, _∙_}
 use mathlib.Core.List.{List, [], _∷_, _++_, append-assoc, append-nil}
 use native.Mathlib.Omega.{arith}
-use native.Mathlib.Nat.{add-zero, zero-add, add-suc, add-assoc, add-mul, mul-assoc, mul-one, pow-zero, pow-suc, mul-le-mul-right}
-use native.Mathlib.Nat.{div-add-mod', div-lt-iff-lt-mul, mul-add-div-right, mul-add-mod-self-right, div-eq-of-lt, mod-eq-of-lt, div-div-eq-div-mul}
-use lib.ListN.{length, getD, take, drop, length-append, List·getD-eq-default, List·getD-append}
+use native.Mathlib.Nat.{add-zero, zero-add, add-suc, add-assoc, add-mul, mul-assoc, mul-one, pow-zero, pow-suc, pow-succ', mul-le-mul-right}
+use native.Mathlib.Nat.{div-add-mod', div-lt-iff-lt-mul, mul-add-div-right, mul-add-mod-self-right, div-eq-of-lt, mod-eq-of-lt, div-one, div-div-eq-div-mul}
+use lib.ListN.{length, getD, take, drop, length-append, length-drop, List·getD-eq-default, List·getD-append}
 use lib.Seq.{getD-at, take-suc, getD-drop}
 use Rattle.octets.specs.Numbers.{numberAt, octetsOf}
 
@@ -79,7 +79,7 @@ octets-number (suc w) s at h l =
     let d : ℕ = getD s (at + w) 0 in
     let q : (n * 256 + d) / 256 ≡ n = mul-add-div-right {m = 256} (omega arith) n d ∙ ap (λ (z : ℕ). n + z) (div-eq-of-lt (h (at + w))) ∙ add-zero n in
     let r : (n * 256 + d) % 256 ≡ d = mul-add-mod-self-right n 256 d ∙ mod-eq-of-lt (h (at + w)) in
-    let k : w < length (drop at s) = simp lib.ListN.length-drop (omega arith) in
+    let k : w < length (drop at s) = simp length-drop (omega arith) in
     ap₂ (λ (a b : ℕ). octetsOf w a ++ (b ∷ [])) q r
     ∙ ap₂ (λ (xs : List ℕ) (b : ℕ). xs ++ (b ∷ [])) (octets-number w s at h (omega arith)) (sym (getD-drop at s w 0))
     ∙ sym (take-suc (drop at s) w 0 k)
@@ -87,10 +87,10 @@ octets-number (suc w) s at h l =
 -- the octets of v + w are those of the high part and those of the low part
 pub octets-join : (v w x : ℕ) → octetsOf (v + w) x ≡ octetsOf v (x / 256 ^ w) ++ octetsOf w x
 unfolding octetsOf
-octets-join v zero x = rw (add-zero v, pow-zero 256) (ap (octetsOf v) (sym (native.Mathlib.Nat.div-one x)) ∙ sym (append-nil _))
+octets-join v zero x = rw (add-zero v, pow-zero 256) (ap (octetsOf v) (sym (div-one x)) ∙ sym (append-nil _))
 octets-join v (suc w) x =
     rw (add-suc v w)
-    (rw (octets-join v w (x / 256), div-div-eq-div-mul x 256 (256 ^ w), native.Mathlib.Nat.pow-succ' 256 w) (append-assoc (octetsOf v (x / (256 * 256 ^ w))) (octetsOf w (x / 256)) (x % 256 ∷ [])))
+    (rw (octets-join v w (x / 256), div-div-eq-div-mul x 256 (256 ^ w), pow-succ' 256 w) (append-assoc (octetsOf v (x / (256 * 256 ^ w))) (octetsOf w (x / 256)) (x % 256 ∷ [])))
 
 -- only the low w octets of a number are spelled
 octets-over : (w q r : ℕ) → octetsOf w (q * 256 ^ w + r) ≡ octetsOf w r

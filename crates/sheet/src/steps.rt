@@ -156,6 +156,9 @@ fn methods() {
 
 fn top_ups(topped: Account) {
     figure(b"top up to 320", topped.credit);
+    say::text(b"last time after a debit");
+    say::number(topped.debit(64).last);
+    say::end();
     figure(b"top up to 319", topped.top_up(319).credit);
     figure(b"top up to 1820", topped.top_up(1820).credit);
 }

@@ -1,7 +1,7 @@
 -- `put_u16`: nothing without room, else two stores. Assumes nothing.
 use Prim.Native.Nat.{_+_, _≤_}
 use native.Mathlib.Omega.{arith}
-use lib.ListN.{length}
+use lib.ListN.{length, length-set}
 use borrow.Author.Needs.{needs}
 use Rattle.octets.proofs.Numbers.{length-octets}
 use Rattle.octets.proofs.Runs.{put-refused, put-two}
@@ -32,7 +32,7 @@ add-to : tie.Need-add-to
 add-to c = omega (arith, room c)
 
 slice-write-to-2 : tie.Need-slice-write-to-2
-slice-write-to-2 c = simp lib.ListN.length-set (omega (arith, room c))
+slice-write-to-2 c = simp length-set (omega (arith, room c))
 
 same-length : tie.Need-same-length
 same-length c = search needs
