@@ -1,4 +1,5 @@
 pub mod Claims
 pub mod Numbers
+pub mod Parts
 pub mod Runs
 pub mod Tests

@@ -4,9 +4,9 @@ use mathlib.Core.Path.{_≡_, refl, sym, ap, ap₂, _∙_}
 use mathlib.Core.List.{List, [], _∷_, _++_, append-assoc, append-nil}
 use native.Mathlib.Omega.{arith}
 use native.Mathlib.Nat.{add-zero, zero-add, add-suc, add-assoc, add-mul, mul-assoc, mul-one, pow-zero, pow-suc, pow-succ', mul-le-mul-right}
-use native.Mathlib.Nat.{div-add-mod', div-lt-iff-lt-mul, mul-add-div-right, mul-add-mod-self-right, div-eq-of-lt, mod-eq-of-lt, div-one, div-div-eq-div-mul}
-use lib.ListN.{length, getD, take, drop, length-append, length-drop, List·getD-eq-default, List·getD-append}
-use lib.Seq.{getD-at, take-suc, getD-drop}
+use native.Mathlib.Nat.{div-add-mod', div-lt-iff-lt-mul, mul-add-div-right, mul-add-mod-self-right, div-one, div-div-eq-div-mul}
+use lib.ListN.{length, getD, length-append, List·getD-eq-default, List·getD-append}
+use lib.Seq.{getD-at}
 use Rattle.octets.specs.Numbers.{numberAt, octetsOf}
 
 -- one octet
@@ -69,20 +69,6 @@ number-octets (suc w) x h =
     ∙ number-octets w (x / 256) q in
     let low : getD (octetsOf w (x / 256) ++ (x % 256 ∷ [])) (0 + w) 0 ≡ x % 256 = getD-at (octetsOf w (x / 256)) (x % 256) [] 0 (0 + w) (omega arith) in
     ap₂ (λ (a b : ℕ). a * 256 + b) high low ∙ div-add-mod' x 256
-
--- the octets of a number that was read are those it was read from
-pub octets-number : (w : ℕ) (s : List ℕ) (at : ℕ) → ((i : ℕ) → getD s i 0 < 256) → at + w ≤ length s → octetsOf w (numberAt w s at) ≡ take w (drop at s)
-unfolding numberAt octetsOf
-octets-number zero s at h l = refl
-octets-number (suc w) s at h l =
-    let n : ℕ = numberAt w s at in
-    let d : ℕ = getD s (at + w) 0 in
-    let q : (n * 256 + d) / 256 ≡ n = mul-add-div-right {m = 256} (omega arith) n d ∙ ap (λ (z : ℕ). n + z) (div-eq-of-lt (h (at + w))) ∙ add-zero n in
-    let r : (n * 256 + d) % 256 ≡ d = mul-add-mod-self-right n 256 d ∙ mod-eq-of-lt (h (at + w)) in
-    let k : w < length (drop at s) = simp length-drop (omega arith) in
-    ap₂ (λ (a b : ℕ). octetsOf w a ++ (b ∷ [])) q r
-    ∙ ap₂ (λ (xs : List ℕ) (b : ℕ). xs ++ (b ∷ [])) (octets-number w s at h (omega arith)) (sym (getD-drop at s w 0))
-    ∙ sym (take-suc (drop at s) w 0 k)
 
 -- the octets of v + w are those of the high part and those of the low part
 pub octets-join : (v w x : ℕ) → octetsOf (v + w) x ≡ octetsOf v (x / 256 ^ w) ++ octetsOf w x

@@ -1,18 +1,19 @@
 -- Laws of runs laid into a longer run. Assumes nothing.
-use Prim.Native.Nat.{ℕ, _+_, _-_, _/_, _%_, _^_, _≤_, _<_}
+use Prim.Native.Nat.{ℕ, suc, _+_, _-_, _/_, _%_, _^_, _≤_, _<_}
 use mathlib.Core.Path.{_≡_, sym, ap, _∙_}
 use mathlib.Core.Bool.{Bool, true, not}
-use mathlib.Core.List.{List, [], _∷_, _++_, append-assoc}
+use mathlib.Core.List.{List, [], _∷_, _++_, append-assoc, append-nil}
 use native.Mathlib.Omega.{arith}
-use native.Mathlib.Nat.{add-assoc, mod-eq-of-lt, div-lt-iff-lt-mul}
+use native.Mathlib.Nat.{add-zero, add-assoc, mod-eq-of-lt, div-lt-iff-lt-mul}
 use native.Mathlib.Numerals.{add-one}
 use lib.Dec.{leb}
-use lib.ListN.{length, getD, take, drop, set, length-append, length-drop, List·getD-append}
-use lib.Seq.{length-take-le, take-at, drop-append-add, drop-drop, getD-append-add, getD-take, getD-drop, sets-eq, paste, take-length}
+use lib.ListN.{length, getD, take, drop, set, length-append, length-drop, take-append-drop, List·getD-append}
+use lib.Seq.{length-take-le, take-at, drop-append-add, drop-drop, getD-append-add, getD-take, getD-drop, sets-eq, take-add}
 use borrow.Author.Tests.{leb-true, leb-false, le-leb, lt-leb}
 use Rattle.octets.specs.Numbers.{octetsOf}
-use Rattle.octets.specs.Runs.{put}
+use Rattle.octets.specs.Runs.{octetsAt, put}
 use Rattle.octets.proofs.Numbers.{length-octets, octets-join, octets-low}
+use Rattle.octets.proofs.Parts.{length-part, part-take}
 use Rattle.octets.proofs.Tests.{split, no-room}
 
 -- with room, and without
@@ -113,6 +114,44 @@ put-refused d at xs r size e l h =
     let k : length d < at + size = no-room (length d) at size r e h in
     sym (put-no-room d at xs (omega arith))
 
--- a copy of all of xs
-pub paste-whole : (d : List ℕ) (at : ℕ) (xs : List ℕ) → at + length xs ≤ length d → paste d at xs (length xs) ≡ put d at xs
-paste-whole d at xs h = ap (λ (ys : List ℕ). take at d ++ ys ++ drop (at + length xs) d) (take-length xs) ∙ sym (put-fits d at xs h)
+-- an element stored
+pub put-one : (d : List ℕ) (at x : ℕ) → at < length d → set d at x ≡ put d at (x ∷ [])
+put-one d at x h = sets-eq (x ∷ []) d at (omega arith) ∙ sym (put-fits d at (x ∷ []) (omega arith))
+
+-- an element stored right behind a run
+pub put-next : (d : List ℕ) (at : ℕ) (xs : List ℕ) (x : ℕ) → at + length xs < length d → set (put d at xs) (at + length xs) x ≡ put d at (xs ++ (x ∷ []))
+put-next d at xs x h =
+    put-one (put d at xs) (at + length xs) x (rw (length-put d at xs) h)
+    ∙ put-beside d at xs (x ∷ []) (omega arith)
+
+-- a run of no octets
+pub put-none : (d : List ℕ) (at : ℕ) → put d at [] ≡ d
+put-none d at =
+    split (leb (at + 0) (length d))
+    (λ e. put-fits d at [] (leb-true _ _ e) ∙ ap (λ (i : ℕ). take at d ++ [] ++ drop i d) (add-zero at) ∙ ap (λ (xs : List ℕ). xs ++ drop at d) (append-nil (take at d)) ∙ take-append-drop at d)
+    (λ e. put-no-room d at [] (leb-false _ _ e))
+
+-- a part laid at its own place again
+pub put-own : (w : ℕ) (d : List ℕ) (at : ℕ) → put d at (octetsAt w d at) ≡ d
+put-own w d at =
+    let xs : List ℕ = octetsAt w d at in
+    let l : length xs ≡ w = length-part w d at in
+    split (leb (at + w) (length d))
+    (λ e.
+    let h : at + w ≤ length d = leb-true _ _ e in
+    put-fits d at xs (omega arith)
+    ∙ ap (λ (n : ℕ). take at d ++ xs ++ drop (at + n) d) l
+    ∙ ap (λ (ys : List ℕ). take at d ++ ys ++ drop (at + w) d) (part-take w d at h)
+    ∙ ap (λ (ys : List ℕ). ys ++ drop (at + w) d) (sym (take-add at w d))
+    ∙ take-append-drop (at + w) d)
+    (λ e. let h : length d < at + w = leb-false _ _ e in put-no-room d at xs (omega arith))
+
+-- the next octet of a part laid behind those before it
+pub put-grows : (d : List ℕ) (place : ℕ) (s : List ℕ) (at i x : ℕ) → place + i < length d → x ≡ getD s (at + i) 0
+    → set (put d place (octetsAt i s at)) (place + i) x ≡ put d place (octetsAt (suc i) s at)
+unfolding octetsAt
+put-grows d place s at i x h e =
+    let l = length-part i s at in
+    ap (λ (n : ℕ). set (put d place (octetsAt i s at)) (place + n) x) (sym l)
+    ∙ put-next d place (octetsAt i s at) x (omega arith)
+    ∙ ap (λ (y : ℕ). put d place (octetsAt i s at ++ (y ∷ []))) e

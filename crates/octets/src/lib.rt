@@ -1,12 +1,12 @@
 // Octets and the numbers they spell, the high octet first: reading and writing 2, 4 and 8 of them, the lesser of
-// two counts, and copying a run of octets to a place in another. Every function is total: an octet past the end
+// two counts, and copying a part of a run to a place in another. Every function is total: an octet past the end
 // reads as 0, and what has no room is not written at all.
 ghost use mathlib.Core.Path.{_≡_};
 ghost use Prim.Native.Nat.{_+_, min};
 ghost use lib.ListN.{getD};
 ghost use lib.Dec.{leb};
 ghost use Rattle.octets.specs.Numbers.{numberAt, octetsOf};
-ghost use Rattle.octets.specs.Runs.{put};
+ghost use Rattle.octets.specs.Runs.{octetsAt, put};
 
 // The lesser of two counts.
 pub fn least(a: usize, b: usize) -> usize
@@ -95,17 +95,17 @@ pub fn put_u64(to: &mut [u8], at: usize, x: u64)
     put_u32(to, at + 4, (x % 4294967296) as u32);
 }
 
-// A whole run copied to a place in another.
-pub fn copy(from: &[u8], to: &mut [u8], at: usize)
-    ensures { λ r. ⌜ now (to .exit) ≡ put (now (to .entry)) at (now (from .entry)) ⌝ }
+// A part of a run copied to a place in another: `size` octets from `at` on.
+pub fn copy(from: &[u8], at: usize, size: usize, to: &mut [u8], place: usize)
+    ensures { λ r. ⌜ now (to .exit) ≡ put (now (to .entry)) place (octetsAt size (now (from .entry)) at) ⌝ }
 {
-    let n = from.len();
-    if !has_room(to.len(), at, n) {
+    if !has_room(to.len(), place, size) {
         return;
     }
+    let start = least(at, from.len());
     let mut i = 0;
-    while i < n {
-        to[at + i] = from[i];
+    while i < size {
+        to[place + i] = octet_at(from, start + i);
         i += 1;
     }
 }

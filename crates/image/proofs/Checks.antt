@@ -1,0 +1,198 @@
+-- Laws of the checks of one field, case by case as the code makes them. Assumes nothing.
+use Prim.Native.Nat.{ℕ, _+_, _-_, _*_, _/_, _%_, _^_, _≤_, _<_}
+use mathlib.Core.Bool.{Bool, true, false, not, _&&_, _||_, false≢true}
+use mathlib.Core.List.{List}
+use mathlib.Core.Path.{_≡_, refl, sym, ap, ap₂, _∙_}
+use native.Mathlib.Omega.{arith}
+use lib.Dec.{ltb, leb, eqb}
+use lib.ListN.{length, getD}
+use borrow.Author.Tests.{lt-ltb, le-ltb, le-leb, lt-leb, leb-true, leb-false, eq-eqb, ne-eqb, eqb-true, not-true, not-false}
+use Rattle.octets.specs.Numbers.{numberAt}
+use Rattle.octets.proofs.Tests.{split, both}
+use Rattle.account.specs.Terms.{Terms, inLimits}
+use Rattle.tables.specs.Rows.{accountOctets, linkOctets, termsAt, linkAt, accountIn, linkIn}
+use Rattle.tables.specs.Rules.{linkSound, accountGood, numberRises, linkGood}
+use Rattle.tables.specs.declared.Link.{Link}
+use Rattle.image.specs.Layout.{headTag, headOctets, accountTag, linkTag, endTag, edition, fieldHead, headSize, accountSize, linkSize, fieldPlace, dataPlace, maxAccounts, maxLinks, constantGood}
+use Rattle.image.specs.Read.{fieldCode, headGood, headCode, accountFields, linkFields, inOrder, dataOctets, isFull, valuesGood, tagAt, nextCode, goodField}
+
+-- ---- where the data of accounts and links stand
+pub account-place : (i : ℕ) → dataPlace i 0 ≡ headSize + fieldHead + accountSize * i
+unfolding fieldPlace
+account-place i = omega arith
+
+pub link-place : (n j : ℕ) → dataPlace n j ≡ headSize + accountSize * n + fieldHead + linkSize * j
+unfolding fieldPlace
+link-place n j = omega arith
+
+-- ---- the code of a field
+module _ (s : List ℕ) (at : ℕ) (order : Bool) (size : ℕ) (full good : Bool) where
+  pub code-short : length s < at + fieldHead → 20 ≡ fieldCode s at order size full good
+  unfolding fieldCode
+  code-short h = simp (lt-leb _ _ h)
+
+  module _ (h : at + fieldHead ≤ length s) where
+    pub code-order : not order ≡ true → 21 ≡ fieldCode s at order size full good
+    unfolding fieldCode
+    code-order e = simp (le-leb _ _ h, not-true order e)
+
+    module _ (o : not order ≡ false) where
+      pub code-length : (r : ℕ) → r ≡ numberAt 2 s (at + 1) → (r ≡ size → ⊥) → 22 ≡ fieldCode s at order size full good
+      unfolding fieldCode
+      code-length r v d = simp (le-leb _ _ h, not-false order o, ← v, ne-eqb _ _ d)
+
+      module _ (r : ℕ) (v : r ≡ numberAt 2 s (at + 1)) (l : r ≡ size) where
+        pub code-cut : length s < at + fieldHead + size → 20 ≡ fieldCode s at order size full good
+        unfolding fieldCode
+        code-cut k = simp (le-leb _ _ h, not-false order o, ← v, eq-eqb _ _ l, lt-leb _ _ k)
+
+        module _ (k : at + fieldHead + size ≤ length s) where
+          pub code-full : full ≡ true → 24 ≡ fieldCode s at order size full good
+          unfolding fieldCode
+          code-full f = simp (le-leb _ _ h, not-false order o, ← v, eq-eqb _ _ l, le-leb _ _ k, f)
+
+          module _ (f : full ≡ false) where
+            pub code-good : good ≡ true → 0 ≡ fieldCode s at order size full good
+            unfolding fieldCode
+            code-good g = simp (le-leb _ _ h, not-false order o, ← v, eq-eqb _ _ l, le-leb _ _ k, f, g)
+
+            pub code-bad : good ≡ false → 23 ≡ fieldCode s at order size full good
+            unfolding fieldCode
+            code-bad g = simp (le-leb _ _ h, not-false order o, ← v, eq-eqb _ _ l, le-leb _ _ k, f, g)
+
+-- ---- the head's values
+module _ (s : List ℕ) (e : ℕ) (p : e ≡ getD s 3 0) where
+  pub edition-bad : (e ≡ edition → ⊥) → false ≡ headGood s
+  unfolding headGood
+  edition-bad d = simp (← p, ne-eqb _ _ d)
+
+  pub constant-left : e ≡ edition → (c : ℕ) → c ≡ numberAt 4 s 4 → (r : Bool) → r ≡ constantGood c → r ≡ headGood s
+  unfolding headGood
+  constant-left q c v r z = z ∙ ap constantGood v ∙ simp (← p, eq-eqb _ _ q)
+
+pub head-is : (s : List ℕ) (tag : ℕ) (good : Bool) (r : ℕ) → tag ≡ getD s 0 0 → good ≡ headGood s
+    → r ≡ fieldCode s 0 (eqb tag headTag) headOctets false good → r ≡ headCode s
+unfolding headCode
+head-is s tag good r e f v = v ∙ rw (e, f)
+
+-- ---- the order of tags
+module _ (tag n m : ℕ) where
+  pub order-first : n ≡ 0 → eqb tag accountTag ≡ inOrder tag n m
+  unfolding inOrder
+  order-first e = simp (eq-eqb _ _ e)
+
+  module _ (h : n ≡ 0 → ⊥) where
+    pub order-link : tag ≡ linkTag → true ≡ inOrder tag n m
+    unfolding inOrder
+    order-link e =
+        split (eqb m 0)
+        (λ q. simp (ne-eqb _ _ h, q, e))
+        (λ q. simp (ne-eqb _ _ h, q, e))
+
+    module _ (k : tag ≡ linkTag → ⊥) where
+      pub order-account : m ≡ 0 → eqb tag accountTag ≡ inOrder tag n m
+      unfolding inOrder
+      order-account e =
+          split (eqb tag accountTag)
+          (λ q. simp (ne-eqb _ _ h, eq-eqb _ _ e, q))
+          (λ q. simp (ne-eqb _ _ h, eq-eqb _ _ e, ne-eqb _ _ k, q))
+
+      pub order-end : (m ≡ 0 → ⊥) → eqb tag endTag ≡ inOrder tag n m
+      unfolding inOrder
+      order-end d = simp (ne-eqb _ _ h, ne-eqb _ _ d, ne-eqb _ _ k)
+
+-- ---- what a tag's field is like
+pub octets-account : (tag : ℕ) → tag ≡ accountTag → accountOctets ≡ dataOctets tag
+unfolding dataOctets
+octets-account tag e = simp (eq-eqb _ _ e)
+
+module _ (tag : ℕ) (h : tag ≡ accountTag → ⊥) where
+  pub octets-link : tag ≡ linkTag → linkOctets ≡ dataOctets tag
+  unfolding dataOctets
+  octets-link e = simp (ne-eqb _ _ h, eq-eqb _ _ e)
+
+  pub octets-end : (tag ≡ linkTag → ⊥) → 0 ≡ dataOctets tag
+  unfolding dataOctets
+  octets-end k = simp (ne-eqb _ _ h, ne-eqb _ _ k)
+
+module _ (tag n m : ℕ) where
+  pub full-account : tag ≡ accountTag → leb maxAccounts n ≡ isFull tag n m
+  unfolding isFull
+  full-account e = simp (eq-eqb _ _ e)
+
+  module _ (h : tag ≡ accountTag → ⊥) where
+    pub full-link : tag ≡ linkTag → leb maxLinks m ≡ isFull tag n m
+    unfolding isFull
+    full-link e = simp (ne-eqb _ _ h, eq-eqb _ _ e)
+
+    pub full-end : (tag ≡ linkTag → ⊥) → false ≡ isFull tag n m
+    unfolding isFull
+    full-end k = simp (ne-eqb _ _ h, ne-eqb _ _ k)
+
+module _ (s : List ℕ) (tag n m : ℕ) where
+  pub values-account : tag ≡ accountTag → accountGood (accountFields s) n ≡ valuesGood s tag n m
+  unfolding valuesGood
+  values-account e = simp (eq-eqb _ _ e)
+
+  module _ (h : tag ≡ accountTag → ⊥) where
+    pub values-link : tag ≡ linkTag → linkGood (accountFields s) (linkFields s n) n m ≡ valuesGood s tag n m
+    unfolding valuesGood
+    values-link e = simp (ne-eqb _ _ h, eq-eqb _ _ e)
+
+    pub values-end : (tag ≡ linkTag → ⊥) → true ≡ valuesGood s tag n m
+    unfolding valuesGood
+    values-end k = simp (ne-eqb _ _ h, ne-eqb _ _ k)
+
+-- ---- the values of an account, at the place where they are read
+pub account-read : (s : List ℕ) (i at : ℕ) (p : Terms) (r : Bool) → at ≡ dataPlace i 0 → p ≡ termsAt s at → r ≡ inLimits p → r ≡ accountGood (accountFields s) i
+unfolding accountGood
+account-read s i at p r e f g = g ∙ ap inLimits (f ∙ ap (termsAt s) (e ∙ account-place i))
+
+pub smax-read : (s : List ℕ) (i at x : ℕ) → at ≡ dataPlace i 0 → x ≡ numberAt 2 s at → x ≡ accountIn (accountFields s) i .smax
+unfolding termsAt
+smax-read s i at x e f = f ∙ ap (numberAt 2 s) (e ∙ account-place i)
+
+-- ---- the values of a link
+module _ (s : List ℕ) (n j : ℕ) where
+  pub rises-first : j ≡ 0 → true ≡ numberRises (linkFields s n) j
+  unfolding numberRises
+  rises-first e = simp (eq-eqb _ _ e)
+
+  pub rises-later : (j ≡ 0 → ⊥) → (a b x y : ℕ) → a ≡ dataPlace n (j - 1) → x ≡ numberAt 2 s a → b ≡ dataPlace n j → y ≡ numberAt 2 s b
+      → ltb x y ≡ numberRises (linkFields s n) j
+  unfolding numberRises linkAt
+  rises-later d a b x y e f g h =
+      ap₂ ltb (f ∙ ap (numberAt 2 s) (e ∙ link-place n (j - 1))) (h ∙ ap (numberAt 2 s) (g ∙ link-place n j)) ∙ simp (ne-eqb _ _ d)
+
+  module _ (r : Bool) (e : r ≡ numberRises (linkFields s n) j) where
+    pub link-falls : not r ≡ true → false ≡ linkGood (accountFields s) (linkFields s n) n j
+    unfolding linkGood
+    link-falls h = simp (← e, not-true r h)
+
+    pub link-read : not r ≡ false → (at : ℕ) (l : Link) (x : ℕ) (z : Bool) → at ≡ dataPlace n j → l ≡ linkAt s at
+        → x ≡ accountIn (accountFields s) (l .account) .smax → z ≡ linkSound l n x → z ≡ linkGood (accountFields s) (linkFields s n) n j
+    unfolding linkGood
+    link-read h at l x z f g u v =
+        let m : l ≡ linkIn (linkFields s n) j = g ∙ ap (linkAt s) (f ∙ link-place n j) in
+        v ∙ ap (linkSound l n) u
+        ∙ ap (λ (k : Link). linkSound k n (accountIn (accountFields s) (k .account) .smax)) m
+        ∙ simp (← e, not-false r h)
+
+-- ---- the field behind n accounts and m links
+module _ (s : List ℕ) (n m at tag : ℕ) (e : at ≡ fieldPlace n m) (t : tag ≡ getD s at 0) where
+  pub tag-is : tag ≡ tagAt s n m
+  tag-is = t ∙ ap (λ (i : ℕ). getD s i 0) e
+
+  pub next-is : (order : Bool) (size : ℕ) (full good : Bool) (r : ℕ) → order ≡ inOrder tag n m → full ≡ isFull tag n m → good ≡ valuesGood s tag n m
+      → size ≡ dataOctets tag → r ≡ fieldCode s at order size full good → r ≡ nextCode s n m
+  unfolding nextCode
+  next-is order size full good r o f g d v =
+      v ∙ rw (o, f, g, d, e, tag-is)
+
+  pub field-other : (x : ℕ) → (tag ≡ x → ⊥) → false ≡ goodField s x n m
+  unfolding goodField
+  field-other x d = simp (← tag-is, ne-eqb _ _ d)
+
+  pub field-tested : (x : ℕ) → tag ≡ x → (r : ℕ) → r ≡ nextCode s n m → eqb r 0 ≡ goodField s x n m
+  unfolding goodField
+  field-tested x q r v = ap (λ (y : ℕ). eqb y 0) v ∙ simp (← tag-is, eq-eqb _ _ q)

@@ -1,0 +1,81 @@
+-- The octets of a configuration image: tagged fields one after the other (document 01, "The configuration image").
+use Prim.Native.Nat.{ℕ, _+_, _*_, _/_, _%_, _^_}
+use mathlib.Core.Bool.{Bool}
+use mathlib.Core.List.{List, [], _∷_, _++_}
+use lib.ListN.{length}
+use lib.Dec.{eqb}
+use Rattle.octets.specs.Numbers.{octetsOf}
+use Rattle.octets.specs.Runs.{joined}
+use Rattle.tables.specs.Rows.{Config, accountOctets, linkOctets, accountTable, linkTable, rowOctets}
+
+-- the four tags, and the only edition
+abbrev pub headTag : ℕ
+headTag = 1
+
+abbrev pub accountTag : ℕ
+accountTag = 2
+
+abbrev pub linkTag : ℕ
+linkTag = 3
+
+abbrev pub endTag : ℕ
+endTag = 9
+
+abbrev pub edition : ℕ
+edition = 1
+
+-- one field: its tag, two octets of length, the data
+unfoldable pub fieldOf : ℕ → List ℕ → List ℕ
+fieldOf tag bytes = tag ∷ octetsOf 2 (length bytes) ++ bytes
+
+-- an image: the head, the accounts, the links, the end
+unfoldable pub imageOf : Config → List ℕ
+imageOf g =
+    fieldOf headTag (edition ∷ octetsOf 4 (g .constant))
+    ++ joined (λ i. fieldOf accountTag (rowOctets accountOctets (accountTable (g .accounts)) i)) (g .accountCount)
+    ++ joined (λ j. fieldOf linkTag (rowOctets linkOctets (linkTable (g .links)) j)) (g .linkCount)
+    ++ fieldOf endTag []
+
+-- ---- sizes that follow: tag and length; the head's data; each field
+abbrev pub fieldHead : ℕ
+fieldHead = 3
+
+abbrev pub headOctets : ℕ
+headOctets = 5
+
+abbrev pub headSize : ℕ
+headSize = fieldHead + headOctets
+
+abbrev pub accountSize : ℕ
+accountSize = fieldHead + accountOctets
+
+abbrev pub linkSize : ℕ
+linkSize = fieldHead + linkOctets
+
+-- the offset of the field behind n accounts and m links, of its data, and the length of an image that ends with it
+unfoldable pub fieldPlace : ℕ → ℕ → ℕ
+fieldPlace n m = headSize + accountSize * n + linkSize * m
+
+abbrev pub dataPlace : ℕ → ℕ → ℕ
+dataPlace n m = fieldPlace n m + fieldHead
+
+abbrev pub imageLength : ℕ → ℕ → ℕ
+imageLength n m = fieldPlace n m + fieldHead
+
+-- ---- limits ("Accounts and links"), and the longest image
+abbrev pub maxAccounts : ℕ
+maxAccounts = 64
+
+abbrev pub maxLinks : ℕ
+maxLinks = 256
+
+abbrev pub longestImage : ℕ
+longestImage = imageLength maxAccounts maxLinks
+
+-- the octets that settle what an image of any length is answered: up to the end of a link that is one too many
+abbrev pub imagePrefix : ℕ
+imagePrefix = fieldPlace maxAccounts maxLinks + linkSize
+
+-- ---- the two low bits of the constant field's first octet are set
+unfoldable pub constantGood : ℕ → Bool
+constantGood c = eqb (c / 2 ^ 24 % 4) 3

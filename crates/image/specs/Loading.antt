@@ -1,0 +1,71 @@
+-- What loading an image answers and leaves in the four lent runs (document 01, "The configuration image" and "Credit, in whole
+-- units").
+use Prim.Native.Nat.{ℕ, _*_}
+use mathlib.Core.Bool.{Bool, not, _&&_}
+use mathlib.Core.List.{List, [], _∷_}
+use lib.ListN.{length, replicate}
+use lib.Dec.{leb, eqb}
+use Rattle.octets.specs.Choice.{if_then_else_}
+use Rattle.octets.specs.Runs.{joined, put}
+use Rattle.account.specs.Terms.{capacity}
+use Rattle.tables.specs.Rows.{accountOctets, linkOctets, accountIn, rowOctets}
+use Rattle.image.specs.Read.{accountFields, linkFields, refused, readImage}
+use Rattle.image.specs.declared.Loaded.{Loaded}
+
+-- the lent runs: rows of accounts, credits, last times, rows of links
+pub record Runs : Type 0 where
+  pub accounts : List ℕ
+  pub credits : List ℕ
+  pub lasts : List ℕ
+  pub links : List ℕ
+
+abbrev pub runsOf : List ℕ → List ℕ → List ℕ → List ℕ → Runs
+runsOf a c t l = record { accounts = a; credits = c; lasts = t; links = l }
+
+-- an answer, and the runs beside it
+pub record Loading : Type 0 where
+  pub answer : Loaded
+  pub runs : Runs
+
+abbrev pub loadingOf : Loaded → Runs → Loading
+loadingOf q r = record { answer = q; runs = r }
+
+-- ---- what is written: the data of n accounts, their capacities, and the data of m links behind them
+unfoldable pub accountRows : List ℕ → ℕ → List ℕ
+accountRows s n = joined (rowOctets accountOctets (accountFields s)) n
+
+unfoldable pub linkRows : List ℕ → ℕ → ℕ → List ℕ
+linkRows s n m = joined (rowOctets linkOctets (linkFields s n)) m
+
+unfoldable pub capacities : List ℕ → ℕ → List ℕ
+capacities s n = joined (λ i. capacity (accountIn (accountFields s) i) ∷ []) n
+
+-- the runs begin with that; rows beyond keep what they had
+unfoldable pub filled : List ℕ → ℕ → ℕ → Runs → Runs
+filled s n m r =
+    runsOf
+    (put (r .accounts) 0 (accountRows s n))
+    (put (r .credits) 0 (capacities s n))
+    (put (r .lasts) 0 (replicate n 0))
+    (put (r .links) 0 (linkRows s n m))
+
+-- each run is long enough for n accounts or m links
+unfoldable pub runsHold : ℕ → ℕ → Runs → Bool
+runsHold n m r =
+    leb (accountOctets * n) (length (r .accounts))
+    && leb n (length (r .credits))
+    && leb n (length (r .lasts))
+    && leb (linkOctets * m) (length (r .links))
+
+-- 26 only when all is well
+unfoldable pub loadAnswer : List ℕ → Runs → Loaded
+loadAnswer s r =
+    if not (eqb (readImage s .code) 0) then readImage s
+    else if runsHold (readImage s .accounts) (readImage s .links) r then readImage s
+    else refused 26 (length s)
+
+unfoldable pub loading : List ℕ → Runs → Loading
+loading s r =
+    if eqb (loadAnswer s r .code) 0
+    then loadingOf (loadAnswer s r) (filled s (loadAnswer s r .accounts) (loadAnswer s r .links) r)
+    else loadingOf (loadAnswer s r) r

@@ -1,0 +1,96 @@
+-- What reading an image answers: field by field, the first that is refused (document 01, "The configuration image").
+use Prim.Native.Nat.{ℕ, _+_, _*_}
+use mathlib.Core.Bool.{Bool, true, false, not, _&&_, _||_}
+use mathlib.Core.List.{List}
+use lib.ListN.{length, getD}
+use lib.Dec.{ltb, leb, eqb}
+use Rattle.octets.specs.Choice.{if_then_else_}
+use Rattle.octets.specs.Numbers.{numberAt}
+use Rattle.tables.specs.Leading.{leading}
+use Rattle.tables.specs.Rows.{Rows, accountOctets, linkOctets}
+use Rattle.tables.specs.Rules.{accountGood, linkGood}
+use Rattle.image.specs.Layout.{headTag, accountTag, linkTag, endTag, edition, fieldHead, headOctets, headSize, accountSize, linkSize, fieldPlace, imageLength, maxAccounts, maxLinks, constantGood}
+use Rattle.image.specs.declared.Loaded.{Loaded}
+
+-- the checks of a field at a place, in their order: 20 fewer than 3 octets left, 21 its tag, 22 its length, 20 its data cut, 24 one
+-- field too many, 23 a value
+unfoldable pub fieldCode : List ℕ → ℕ → Bool → ℕ → Bool → Bool → ℕ
+fieldCode s at order size full good =
+    if not (leb (at + fieldHead) (length s)) then 20
+    else if not order then 21
+    else if not (eqb (numberAt 2 s (at + 1)) size) then 22
+    else if not (leb (at + fieldHead + size) (length s)) then 20
+    else if full then 24
+    else if not good then 23
+    else 0
+
+-- ---- the head: its edition, and the constant field
+unfoldable pub headGood : List ℕ → Bool
+headGood s = eqb (getD s 3 0) edition && constantGood (numberAt 4 s 4)
+
+unfoldable pub headCode : List ℕ → ℕ
+headCode s = fieldCode s 0 (eqb (getD s 0 0) headTag) headOctets false (headGood s)
+
+-- ---- the field behind n accounts and m links
+
+-- the data of the accounts, and of the links behind n accounts, as rows
+abbrev pub accountFields : List ℕ → Rows
+accountFields s = record { octets = s; first = headSize + fieldHead; step = accountSize }
+
+abbrev pub linkFields : List ℕ → ℕ → Rows
+linkFields s n = record { octets = s; first = headSize + accountSize * n + fieldHead; step = linkSize }
+
+-- first an account; then accounts or a link; then links or the end
+unfoldable pub inOrder : ℕ → ℕ → ℕ → Bool
+inOrder tag n m =
+    if eqb n 0 then eqb tag accountTag
+    else if eqb m 0 then eqb tag accountTag || eqb tag linkTag
+    else eqb tag linkTag || eqb tag endTag
+
+-- the length of an account's data, a link's, and the end's
+unfoldable pub dataOctets : ℕ → ℕ
+dataOctets tag = if eqb tag accountTag then accountOctets else if eqb tag linkTag then linkOctets else 0
+
+-- an account or a link more would be over the limit
+unfoldable pub isFull : ℕ → ℕ → ℕ → Bool
+isFull tag n m = if eqb tag accountTag then leb maxAccounts n else if eqb tag linkTag then leb maxLinks m else false
+
+-- the values of the field
+unfoldable pub valuesGood : List ℕ → ℕ → ℕ → ℕ → Bool
+valuesGood s tag n m =
+    if eqb tag accountTag then accountGood (accountFields s) n
+    else if eqb tag linkTag then linkGood (accountFields s) (linkFields s n) n m
+    else true
+
+abbrev pub tagAt : List ℕ → ℕ → ℕ → ℕ
+tagAt s n m = getD s (fieldPlace n m) 0
+
+unfoldable pub nextCode : List ℕ → ℕ → ℕ → ℕ
+nextCode s n m =
+    fieldCode s (fieldPlace n m) (inOrder (tagAt s n m) n m) (dataOctets (tagAt s n m)) (isFull (tagAt s n m) n m) (valuesGood s (tagAt s n m) n m)
+
+-- ---- how many accounts stand behind the head, and how many links behind them, each of the tag and well
+unfoldable pub goodField : List ℕ → ℕ → ℕ → ℕ → Bool
+goodField s tag n m = eqb (tagAt s n m) tag && eqb (nextCode s n m) 0
+
+unfoldable pub accountCount : List ℕ → ℕ
+accountCount s = leading (λ i. goodField s accountTag i 0) maxAccounts
+
+unfoldable pub linkCount : List ℕ → ℕ → ℕ
+linkCount s n = leading (λ j. goodField s linkTag n j) maxLinks
+
+-- ---- the answer
+abbrev pub refused : ℕ → ℕ → Loaded
+refused code offset = record { code = code; offset = offset; constant = 0; accounts = 0; links = 0 }
+
+-- the field behind n accounts and m links ends the reading: it is refused, or it is the end
+unfoldable pub readEnd : List ℕ → ℕ → ℕ → Loaded
+readEnd s n m =
+    if not (eqb (nextCode s n m) 0) then refused (nextCode s n m) (fieldPlace n m)
+    else if ltb (imageLength n m) (length s) then refused 25 (imageLength n m)
+    else record { code = 0; offset = length s; constant = numberAt 4 s 4; accounts = n; links = m }
+
+unfoldable pub readImage : List ℕ → Loaded
+readImage s =
+    if not (eqb (headCode s) 0) then refused (headCode s) 0
+    else readEnd s (accountCount s) (linkCount s (accountCount s))

@@ -1,0 +1,28 @@
+-- `sound`: the account, the ports, the sizes. Assumes nothing.
+use Rattle.tables.proofs.Rules.{account-past, ports-bad, sizes-left}
+use borrow.Author.Needs.{needs}
+use Rattle.tables.proofs.Link.sound.Statement.{statement}
+use Rattle.tables.proofs.Link.sound.Tie as tie
+
+cast-if1 : tie.Need-cast-if1
+cast-if1 c = search needs
+
+returns : tie.Need-returns
+returns c = account-past _ _ _ (c .if1 .taken)
+
+ports-sound-requires : tie.Need-ports-sound-requires
+ports-sound-requires c κs = search needs
+
+returns-2 : tie.Need-returns-2
+returns-2 c = ports-bad _ _ _ (c .before .before .if1 .left) _ (c .before .ports-sound .ensures) (c .if2 .taken)
+
+sizes-sound-requires : tie.Need-sizes-sound-requires
+sizes-sound-requires c κs = search needs
+
+returns-3 : tie.Need-returns-3
+returns-3 c = sizes-left _ _ _ (c .before .before .before .if1 .left) _ (c .before .before .ports-sound .ensures) (c .before .if2 .left) _ (c .sizes-sound .ensures)
+
+pub sound-spec : {M : Type 1} → statement M
+sound-spec =
+    tie.close
+    (tie.spec cast-if1 returns ports-sound-requires returns-2 sizes-sound-requires returns-3)

@@ -1,0 +1,88 @@
+-- Laws of rows: reading past the end, the same octets at two places, and the search for a number. Assumes nothing.
+use Prim.Native.Nat.{ℕ, suc, _+_, _*_, _/_, _≤_, _<_, min}
+use mathlib.Core.Bool.{Bool, true, false, not}
+use mathlib.Core.List.{List}
+use mathlib.Core.Path.{_≡_, refl, sym, ap, ap₂, _∙_}
+use native.Mathlib.Nat.{zero-add, add-assoc, add-zero, min-le-right, div-mul-le-self, mul-comm, le-trans, mul-le-mul-left}
+use native.Mathlib.Omega.{arith}
+use lib.ListN.{length, getD}
+use borrow.Author.Tests.{lt-ltb, le-ltb, eq-eqb, ne-eqb}
+use Rattle.octets.specs.Numbers.{numberAt}
+use Rattle.octets.proofs.Numbers.{number-shift}
+use Rattle.octets.proofs.Parts.{getD-clamped}
+use Rattle.account.specs.Terms.{Terms}
+use Rattle.tables.specs.Leading.{leading}
+use Rattle.tables.specs.Rows.{accountOctets, linkOctets, termsAt, linkAt, linksInUse, otherNumber, found}
+use Rattle.tables.specs.declared.Found.{Found}
+use Rattle.tables.specs.declared.Link.{Link}
+use Rattle.tables.specs.declared.Found.the-variants.{At, Nowhere}
+use Rattle.tables.proofs.Leading.{leading-on, leading-stop, leading-high}
+
+-- ---- the same octets at two places
+module _ (s t : List ℕ) (a b : ℕ) where
+  -- a number inside a row of w octets
+  inside : (w : ℕ) → ((k : ℕ) → k < w → getD s (a + k) 0 ≡ getD t (b + k) 0) → (v x : ℕ) → x + v ≤ w → numberAt v s (a + x) ≡ numberAt v t (b + x)
+  inside w h v x q = number-shift v s t (a + x) (b + x) (λ k l. simp add-assoc (h (x + k) (omega arith)))
+
+  start : (w : ℕ) → ((k : ℕ) → k < w → getD s (a + k) 0 ≡ getD t (b + k) 0) → (v : ℕ) → v ≤ w → numberAt v s a ≡ numberAt v t b
+  start w h v q = number-shift v s t a b (λ k l. h k (omega arith))
+
+  pub terms-same : ((k : ℕ) → k < accountOctets → getD s (a + k) 0 ≡ getD t (b + k) 0) → termsAt s a ≡ termsAt t b
+  unfolding termsAt
+  terms-same h =
+      rw (start 6 h 2 (omega arith), h 2 (omega arith), inside 6 h 2 3 (omega arith), h 5 (omega arith))
+
+  pub link-same : ((k : ℕ) → k < linkOctets → getD s (a + k) 0 ≡ getD t (b + k) 0) → linkAt s a ≡ linkAt t b
+  unfolding linkAt
+  link-same h =
+      rw (start 13 h 2 (omega arith), h 2 (omega arith), inside 13 h 4 3 (omega arith), inside 13 h 2 7 (omega arith), inside 13 h 2 9 (omega arith), inside 13 h 2 11 (omega arith))
+
+-- ---- from the end on all octets are 0
+pub terms-clamped : (s : List ℕ) (at : ℕ) → termsAt s (min at (length s)) ≡ termsAt s at
+terms-clamped s at = terms-same s s (min at (length s)) at (λ k l. getD-clamped s at k)
+
+pub link-clamped : (s : List ℕ) (at : ℕ) → linkAt s (min at (length s)) ≡ linkAt s at
+link-clamped s at = link-same s s (min at (length s)) at (λ k l. getD-clamped s at k)
+
+-- ---- a row read value by value
+pub terms-read : (s : List ℕ) (at start a k j m : ℕ) → start ≡ min at (length s)
+    → a ≡ numberAt 2 s start → k ≡ getD s (start + 2) 0 → j ≡ numberAt 2 s (start + 3) → m ≡ getD s (start + 5) 0
+    → _≡_ {A = Terms} (record { smax = a; k = k; jitter = j; mode = m }) (termsAt s at)
+unfolding termsAt
+terms-read s at start a k j m e p q u v = rw (p, q, u, v, e) (terms-clamped s at)
+
+pub link-read : (s : List ℕ) (at start n p w i z a : ℕ) → start ≡ min at (length s)
+    → n ≡ numberAt 2 s start → p ≡ getD s (start + 2) 0 → w ≡ numberAt 4 s (start + 3)
+    → i ≡ numberAt 2 s (start + 7) → z ≡ numberAt 2 s (start + 9) → a ≡ numberAt 2 s (start + 11)
+    → _≡_ {A = Link} (record { number = n; port = p; mask = w; smallest = i; largest = z; account = a }) (linkAt s at)
+unfolding linkAt
+link-read s at start n p w i z a e h1 h2 h3 h4 h5 h6 = rw (h1, h2, h3, h4, h5, h6, e) (link-clamped s at)
+
+-- ---- the search: row i, of `rows` in use, is inside the run
+pub row-inside : (links : List ℕ) (count rows i : ℕ) → rows ≡ linksInUse links count → i < rows → linkOctets * i + linkOctets ≤ length links
+row-inside links count rows i e h =
+    let m = min-le-right count (length links / linkOctets) in
+    let d : linkOctets * (length links / linkOctets) ≤ length links = rw (mul-comm linkOctets (length links / linkOctets)) (div-mul-le-self (length links) linkOctets) in
+    omega arith
+
+module _ (links : List ℕ) (count x rows : ℕ) (e : rows ≡ linksInUse links count) (i : ℕ) (s : leading (otherNumber links x) i ≡ i) where
+  module _ (h : i < rows) (r : ℕ) (v : r ≡ numberAt 2 links (linkOctets * i)) where
+    number-is : linkAt links (0 + linkOctets * i) .number ≡ r
+    unfolding linkAt
+    number-is = ap (numberAt 2 links) (zero-add (linkOctets * i)) ∙ sym v
+
+    pub search-on : (r ≡ x → ⊥) → leading (otherNumber links x) (suc i) ≡ suc i
+    search-on d = leading-on (otherNumber links x) i s (ap not (ne-eqb _ _ (λ q. d (sym number-is ∙ q))))
+
+    pub search-hit : r ≡ x → At i ≡ found links count x
+    unfolding found
+    search-hit q =
+        let f : leading (otherNumber links x) rows ≡ i = leading-stop (otherNumber links x) i rows s (ap not (eq-eqb _ _ (number-is ∙ q))) h in
+        rw (← e, f) (simp (lt-ltb _ _ h))
+
+  pub search-miss : rows ≤ i → i ≤ rows → Nowhere ≡ found links count x
+  unfolding found
+  search-miss h k =
+      let m : i ≡ rows = omega arith in
+      let f : leading (otherNumber links x) rows ≡ rows = rw m at s in
+      rw (← e, f) (simp (le-ltb rows rows (omega arith)))

@@ -1,0 +1,85 @@
+-- Rows of accounts and links in octets, in the order of the image's data (document 01, "The configuration image", the table), and
+-- the tables that the writer and a frame call are lent.
+use Prim.Native.Nat.{ℕ, _+_, _*_, _/_, min}
+use mathlib.Core.Bool.{Bool, not}
+use mathlib.Core.List.{List}
+use lib.ListN.{length, getD}
+use lib.Dec.{ltb, eqb}
+use Rattle.octets.specs.Choice.{if_then_else_}
+use Rattle.octets.specs.Numbers.{numberAt}
+use Rattle.octets.specs.Runs.{octetsAt}
+use Rattle.account.specs.Terms.{Terms}
+use Rattle.tables.specs.Leading.{leading}
+use Rattle.tables.specs.declared.Found.{Found}
+use Rattle.tables.specs.declared.Found.the-variants.{At, Nowhere}
+use Rattle.tables.specs.declared.Link.{Link}
+
+-- the account whose octets start at a place: Smax (2), k (1), J (2), mode (1)
+abbrev pub accountOctets : ℕ
+accountOctets = 6
+
+unfoldable pub termsAt : List ℕ → ℕ → Terms
+termsAt s at = record { smax = numberAt 2 s at; k = getD s (at + 2) 0; jitter = numberAt 2 s (at + 3); mode = getD s (at + 5) 0 }
+
+-- the link whose octets start at a place: number (2), port (1), mask (4), smallest (2), largest (2), account (2)
+abbrev pub linkOctets : ℕ
+linkOctets = 13
+
+unfoldable pub linkAt : List ℕ → ℕ → Link
+linkAt s at =
+    record {
+      number = numberAt 2 s at;
+      port = getD s (at + 2) 0;
+      mask = numberAt 4 s (at + 3);
+      smallest = numberAt 2 s (at + 7);
+      largest = numberAt 2 s (at + 9);
+      account = numberAt 2 s (at + 11);
+    }
+
+-- rows at equal distances in a run of octets: in a table they touch, in an image a field's tag and length stand between them
+pub record Rows : Type 0 where
+  pub octets : List ℕ
+  pub first : ℕ
+  pub step : ℕ
+
+abbrev pub rowPlace : Rows → ℕ → ℕ
+rowPlace r i = r .first + r .step * i
+
+abbrev pub accountIn : Rows → ℕ → Terms
+accountIn r i = termsAt (r .octets) (rowPlace r i)
+
+abbrev pub linkIn : Rows → ℕ → Link
+linkIn r j = linkAt (r .octets) (rowPlace r j)
+
+-- the w octets of row i
+abbrev pub rowOctets : ℕ → Rows → ℕ → List ℕ
+rowOctets w r i = octetsAt w (r .octets) (rowPlace r i)
+
+-- a table of accounts and one of links
+abbrev pub accountTable : List ℕ → Rows
+accountTable s = record { octets = s; first = 0; step = accountOctets }
+
+abbrev pub linkTable : List ℕ → Rows
+linkTable s = record { octets = s; first = 0; step = linkOctets }
+
+-- link rows in use ("Accounts and links"): a count larger than the rows lent is read as those; a row in part is none
+abbrev pub linksInUse : List ℕ → ℕ → ℕ
+linksInUse links count = min count (length links / linkOctets)
+
+-- the first row in use that has the number ("Codes, in order of checking": the first row counts)
+abbrev pub otherNumber : List ℕ → ℕ → ℕ → Bool
+otherNumber links x j = not (eqb (linkIn (linkTable links) j .number) x)
+
+abbrev pub rowOf : List ℕ → ℕ → ℕ → ℕ
+rowOf links count x = leading (otherNumber links x) (linksInUse links count)
+
+unfoldable pub found : List ℕ → ℕ → ℕ → Found
+found links count x = if ltb (rowOf links count x) (linksInUse links count) then At (rowOf links count x) else Nowhere
+
+-- the constant field, the tables and the counts in use: what an image is written from, and what a frame call is lent
+pub record Config : Type 0 where
+  pub constant : ℕ
+  pub accounts : List ℕ
+  pub accountCount : ℕ
+  pub links : List ℕ
+  pub linkCount : ℕ

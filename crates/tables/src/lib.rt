@@ -1,0 +1,117 @@
+// The tables that a switch is lent: rows of 6 octets an account and 13 a link, in the order of the image's data.
+// Decoding a row, the value rules of a link, and the search for a link's number.
+ghost use mathlib.Core.Path.{_≡_};
+ghost use Rattle.account.specs.Account.{accountOf};
+ghost use Rattle.tables.specs.Rows.{termsAt, linkAt, found};
+ghost use Rattle.tables.specs.Rules.{portsSound, sizesSound, linkSound};
+use account::Account;
+
+// Octets of a row.
+pub const ACCOUNT_OCTETS: usize = 6;
+
+pub const LINK_OCTETS: usize = 13;
+
+// Ports of a switch.
+const PORT_COUNT: u8 = 32;
+
+// A virtual link: number, input port, mask of output ports (bit p for port p), frame sizes, account.
+pub struct Link {
+    pub number: u16,
+    pub port: u8,
+    pub mask: u32,
+    pub smallest: u16,
+    pub largest: u16,
+    pub account: u16,
+}
+
+// Where a link's number was found.
+pub enum Found {
+    At(usize),
+    Nowhere,
+}
+
+// The account whose octets start at a place, with a credit and a last time; octets past the end are 0.
+pub fn account_at(rows: &[u8], at: usize, credit: u32, last: u64) -> Account
+    ensures { λ r. ⌜ r ≡ accountOf (termsAt (now (rows .entry)) at) credit last ⌝ }
+{
+    let start = octets::least(at, rows.len());
+    Account {
+        smax: octets::u16_at(rows, start),
+        k: octets::octet_at(rows, start + 2),
+        jitter: octets::u16_at(rows, start + 3),
+        mode: octets::octet_at(rows, start + 5),
+        credit,
+        last,
+    }
+}
+
+// The link whose octets start at a place; octets past the end are 0.
+pub fn link_at(rows: &[u8], at: usize) -> Link
+    ensures { λ r. ⌜ r ≡ linkAt (now (rows .entry)) at ⌝ }
+{
+    let start = octets::least(at, rows.len());
+    Link {
+        number: octets::u16_at(rows, start),
+        port: octets::octet_at(rows, start + 2),
+        mask: octets::u32_at(rows, start + 3),
+        smallest: octets::u16_at(rows, start + 7),
+        largest: octets::u16_at(rows, start + 9),
+        account: octets::u16_at(rows, start + 11),
+    }
+}
+
+// Whether a port is an input port and a mask names some output port, but not the input port.
+pub fn ports_sound(port: u8, mask: u32) -> bool
+    ensures { λ r. ⌜ r ≡ portsSound port mask ⌝ }
+{
+    if PORT_COUNT <= port {
+        return false;
+    }
+    if mask == 0 {
+        return false;
+    }
+    (mask >> port) & 1 == 0
+}
+
+// Whether frame sizes rise from the smallest frame to Smax.
+pub fn sizes_sound(smallest: u16, largest: u16, smax: u16) -> bool
+    ensures { λ r. ⌜ r ≡ sizesSound smallest largest smax ⌝ }
+{
+    if (smallest as usize) < frame::SMALLEST_FRAME {
+        return false;
+    }
+    if largest < smallest {
+        return false;
+    }
+    largest <= smax
+}
+
+impl Link {
+    // Whether the values keep their rules among so many accounts; `smax` is that of the link's account.
+    pub fn sound(self, accounts: usize, smax: u16) -> bool
+        ensures { λ r. ⌜ r ≡ linkSound self accounts smax ⌝ }
+    {
+        if accounts <= self.account as usize {
+            return false;
+        }
+        if !ports_sound(self.port, self.mask) {
+            return false;
+        }
+        sizes_sound(self.smallest, self.largest, smax)
+    }
+}
+
+// The first of the rows in use that has the number. A count larger than the rows lent is read as those.
+pub fn find(links: &[u8], count: usize, number: u16) -> Found
+    ensures { λ r. ⌜ r ≡ found (now (links .entry)) count number ⌝ }
+{
+    let rows = octets::least(count, links.len() / LINK_OCTETS);
+    let mut i = 0;
+    while i < rows {
+        if octets::u16_at(links, LINK_OCTETS * i) == number {
+            return Found::At(i);
+        }
+        i += 1;
+    }
+    Found::Nowhere
+}
