@@ -13,15 +13,15 @@ use Rattle.account.specs.Terms.{Terms, inLimits}
 use Rattle.tables.specs.Rows.{accountOctets, linkOctets, termsAt, linkAt, accountIn, linkIn}
 use Rattle.tables.specs.Rules.{linkSound, accountGood, numberRises, linkGood}
 use Rattle.tables.specs.declared.Link.{Link}
-use Rattle.image.specs.Layout.{headTag, headOctets, accountTag, linkTag, endTag, edition, fieldHead, headSize, accountSize, linkSize, fieldPlace, dataPlace, maxAccounts, maxLinks, constantGood}
+use Rattle.image.specs.Layout.{headTag, headOctets, accountTag, linkTag, endTag, edition, fieldHead, accountSize, linkSize, fieldPlace, dataPlace, maxAccounts, maxLinks, constantGood}
 use Rattle.image.specs.Read.{fieldCode, headGood, headCode, accountFields, linkFields, inOrder, dataOctets, isFull, valuesGood, tagAt, nextCode, goodField}
 
 -- ---- where the data of accounts and links stand
-pub account-place : (i : ℕ) → dataPlace i 0 ≡ headSize + fieldHead + accountSize * i
+pub account-place : (i : ℕ) → dataPlace i 0 ≡ dataPlace 0 0 + accountSize * i
 unfolding fieldPlace
 account-place i = omega arith
 
-pub link-place : (n j : ℕ) → dataPlace n j ≡ headSize + accountSize * n + fieldHead + linkSize * j
+pub link-place : (n j : ℕ) → dataPlace n j ≡ dataPlace n 0 + linkSize * j
 unfolding fieldPlace
 link-place n j = omega arith
 

@@ -1,1 +1,4 @@
+pub mod Accepted
 pub mod Checks
+pub mod Filling
+pub mod Reading

@@ -49,23 +49,23 @@ filled s n m r =
     (put (r .lasts) 0 (replicate n 0))
     (put (r .links) 0 (linkRows s n m))
 
--- each run is long enough for n accounts or m links
-unfoldable pub runsHold : ℕ → ℕ → Runs → Bool
-runsHold n m r =
-    leb (accountOctets * n) (length (r .accounts))
-    && leb n (length (r .credits))
-    && leb n (length (r .lasts))
-    && leb (linkOctets * m) (length (r .links))
+-- runs of these lengths are long enough for n accounts and m links
+unfoldable pub runsHold : ℕ → ℕ → ℕ → ℕ → ℕ → ℕ → Bool
+runsHold n m accounts credits lasts links =
+    leb (accountOctets * n) accounts && leb n credits && leb n lasts && leb (linkOctets * m) links
 
--- 26 only when all is well
-unfoldable pub loadAnswer : List ℕ → Runs → Loaded
-loadAnswer s r =
+-- the answer, by the lengths of the runs: 26 only when all is well
+unfoldable pub loadAnswer : List ℕ → ℕ → ℕ → ℕ → ℕ → Loaded
+loadAnswer s accounts credits lasts links =
     if not (eqb (readImage s .code) 0) then readImage s
-    else if runsHold (readImage s .accounts) (readImage s .links) r then readImage s
+    else if runsHold (readImage s .accounts) (readImage s .links) accounts credits lasts links then readImage s
     else refused 26 (length s)
+
+abbrev pub answerFor : List ℕ → Runs → Loaded
+answerFor s r = loadAnswer s (length (r .accounts)) (length (r .credits)) (length (r .lasts)) (length (r .links))
 
 unfoldable pub loading : List ℕ → Runs → Loading
 loading s r =
-    if eqb (loadAnswer s r .code) 0
-    then loadingOf (loadAnswer s r) (filled s (loadAnswer s r .accounts) (loadAnswer s r .links) r)
-    else loadingOf (loadAnswer s r) r
+    if eqb (answerFor s r .code) 0
+    then loadingOf (answerFor s r) (filled s (answerFor s r .accounts) (answerFor s r .links) r)
+    else loadingOf (answerFor s r) r

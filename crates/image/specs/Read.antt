@@ -1,5 +1,5 @@
 -- What reading an image answers: field by field, the first that is refused (document 01, "The configuration image").
-use Prim.Native.Nat.{ℕ, _+_, _*_}
+use Prim.Native.Nat.{ℕ, _+_}
 use mathlib.Core.Bool.{Bool, true, false, not, _&&_, _||_}
 use mathlib.Core.List.{List}
 use lib.ListN.{length, getD}
@@ -9,7 +9,7 @@ use Rattle.octets.specs.Numbers.{numberAt}
 use Rattle.tables.specs.Leading.{leading}
 use Rattle.tables.specs.Rows.{Rows, accountOctets, linkOctets}
 use Rattle.tables.specs.Rules.{accountGood, linkGood}
-use Rattle.image.specs.Layout.{headTag, accountTag, linkTag, endTag, edition, fieldHead, headOctets, headSize, accountSize, linkSize, fieldPlace, imageLength, maxAccounts, maxLinks, constantGood}
+use Rattle.image.specs.Layout.{headTag, accountTag, linkTag, endTag, edition, fieldHead, headOctets, fieldPlace, dataPlace, imageLength, maxAccounts, maxLinks, constantGood}
 use Rattle.image.specs.declared.Loaded.{Loaded}
 
 -- the checks of a field at a place, in their order: 20 fewer than 3 octets left, 21 its tag, 22 its length, 20 its data cut, 24 one
@@ -33,12 +33,15 @@ headCode s = fieldCode s 0 (eqb (getD s 0 0) headTag) headOctets false (headGood
 
 -- ---- the field behind n accounts and m links
 
--- the data of the accounts, and of the links behind n accounts, as rows
+-- the data of fields of one size, the first at a place, as rows; those of the accounts, and of the links behind n accounts
+abbrev pub fieldRows : List ℕ → ℕ → ℕ → Rows
+fieldRows s first size = record { octets = s; first = first; step = fieldHead + size }
+
 abbrev pub accountFields : List ℕ → Rows
-accountFields s = record { octets = s; first = headSize + fieldHead; step = accountSize }
+accountFields s = fieldRows s (dataPlace 0 0) accountOctets
 
 abbrev pub linkFields : List ℕ → ℕ → Rows
-linkFields s n = record { octets = s; first = headSize + accountSize * n + fieldHead; step = linkSize }
+linkFields s n = fieldRows s (dataPlace n 0) linkOctets
 
 -- first an account; then accounts or a link; then links or the end
 unfoldable pub inOrder : ℕ → ℕ → ℕ → Bool

@@ -155,3 +155,7 @@ put-grows d place s at i x h e =
     ap (λ (n : ℕ). set (put d place (octetsAt i s at)) (place + n) x) (sym l)
     ∙ put-next d place (octetsAt i s at) x (omega arith)
     ∙ ap (λ (y : ℕ). put d place (octetsAt i s at ++ (y ∷ []))) e
+
+-- a run as long as the one it was laid into
+pub length-laid : (d : List ℕ) (at : ℕ) (xs e : List ℕ) → e ≡ put d at xs → length e ≡ length d
+length-laid d at xs e v = ap length v ∙ length-put d at xs

@@ -3,6 +3,7 @@
 use Prim.Native.Nat.{ℕ, _+_, _-_, _≤_, _<_}
 use mathlib.Core.Bool.{Bool, true, false, not, _&&_, false≢true}
 use mathlib.Core.Path.{_≡_, refl, sym, _∙_}
+use native.Mathlib.Nat.{zero-add}
 use native.Mathlib.Omega.{arith}
 use lib.Dec.{leb}
 use borrow.Author.Tests.{leb-true, leb-false, le-leb, lt-leb, not-true, not-false}
@@ -41,3 +42,8 @@ module _ (len at size : ℕ) where
 
     pub no-room : not r ≡ true → len < at + size
     no-room h = leb-false _ _ (sym e ∙ not-true r h)
+
+-- the same at a run's start
+module _ (len size : ℕ) (r : Bool) (e : r ≡ leb (0 + size) len) where
+  pub has-room-first : not r ≡ false → size ≤ len
+  has-room-first h = rw (zero-add size) at (has-room len 0 size r e h)

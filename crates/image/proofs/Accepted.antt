@@ -1,0 +1,181 @@
+-- What an accepted image is like, field by field, and that a refusal answers no counts. Assumes nothing.
+use Prim.Native.Nat.{ℕ, suc, _+_, _-_, _*_, _≤_, _<_}
+use mathlib.Core.Bool.{Bool, true, false, not, _&&_, _||_, false≢true}
+use mathlib.Core.List.{List}
+use mathlib.Core.Path.{_≡_, refl, sym, ap, ap₂, _∙_}
+use native.Mathlib.Omega.{arith}
+use lib.Dec.{ltb, leb, eqb}
+use lib.ListN.{length, getD}
+use borrow.Author.Tests.{le-leb, lt-leb, leb-true, leb-false, eq-eqb, eqb-true, eqb-false}
+use Rattle.octets.specs.Numbers.{numberAt}
+use Rattle.octets.proofs.Tests.{split, both}
+use Rattle.tables.specs.Rules.{accountGood, linkGood}
+use Rattle.tables.proofs.Leading.{leading-before, leading-fails, leading-high}
+use Rattle.image.specs.Layout.{headTag, accountTag, linkTag, endTag, fieldHead, headOctets, fieldPlace, imageLength, maxAccounts, maxLinks}
+use Rattle.image.specs.Read.{fieldCode, headGood, headCode, accountFields, linkFields, inOrder, dataOctets, isFull, valuesGood, tagAt, nextCode, goodField, accountCount, linkCount, refused, readImage}
+use Rattle.image.specs.Loading.{Runs, answerFor}
+use Rattle.image.specs.declared.Loaded.{Loaded}
+use Rattle.image.proofs.Checks.{code-short, code-order, code-length, code-cut, code-full, code-bad, values-account, values-link}
+use Rattle.image.proofs.Reading.{by-end, by-reading, by-loading}
+
+-- ---- a field that passes every check
+pub record Passed (s : List ℕ) (at : ℕ) (order : Bool) (size : ℕ) (full good : Bool) : Type 0 where
+  pub headed : at + fieldHead ≤ length s
+  pub ordered : order ≡ true
+  pub sized : numberAt 2 s (at + 1) ≡ size
+  pub whole : at + fieldHead + size ≤ length s
+  pub few : full ≡ false
+  pub sound : good ≡ true
+
+module _ (s : List ℕ) (at : ℕ) (order : Bool) (size : ℕ) (full good : Bool) (z : fieldCode s at order size full good ≡ 0) where
+  passed-headed : at + fieldHead ≤ length s
+  passed-headed =
+      split (leb (at + fieldHead) (length s))
+      (λ e. leb-true _ _ e)
+      (λ e. let h = code-short s at order size full good (leb-false _ _ e) in absurd (omega arith))
+
+  passed-ordered : order ≡ true
+  passed-ordered =
+      split order (λ e. e)
+      (λ e. let h = code-order s at order size full good passed-headed (ap not e) in absurd (omega arith))
+
+  passed-sized : numberAt 2 s (at + 1) ≡ size
+  passed-sized =
+      split (eqb (numberAt 2 s (at + 1)) size)
+      (λ e. eqb-true _ _ e)
+      (λ e. let h = code-length s at order size full good passed-headed (ap not passed-ordered) _ refl (eqb-false _ _ e) in absurd (omega arith))
+
+  passed-whole : at + fieldHead + size ≤ length s
+  passed-whole =
+      split (leb (at + fieldHead + size) (length s))
+      (λ e. leb-true _ _ e)
+      (λ e. let h = code-cut s at order size full good passed-headed (ap not passed-ordered) _ refl passed-sized (leb-false _ _ e) in absurd (omega arith))
+
+  passed-few : full ≡ false
+  passed-few =
+      split full
+      (λ e. let h = code-full s at order size full good passed-headed (ap not passed-ordered) _ refl passed-sized passed-whole e in absurd (omega arith))
+      (λ e. e)
+
+  passed-sound : good ≡ true
+  passed-sound =
+      split good (λ e. e)
+      (λ e. let h = code-bad s at order size full good passed-headed (ap not passed-ordered) _ refl passed-sized passed-whole passed-few e in absurd (omega arith))
+
+  pub passed : Passed s at order size full good
+  passed =
+      record {
+        headed = passed-headed;
+        ordered = passed-ordered;
+        sized = passed-sized;
+        whole = passed-whole;
+        few = passed-few;
+        sound = passed-sound;
+      }
+
+-- the head, and a later field
+pub head-passes : (s : List ℕ) → headCode s ≡ 0 → Passed s 0 (eqb (getD s 0 0) headTag) headOctets false (headGood s)
+unfolding headCode
+head-passes s z = passed s 0 (eqb (getD s 0 0) headTag) headOctets false (headGood s) z
+
+abbrev pub Next : List ℕ → ℕ → ℕ → Type 0
+Next s n m = Passed s (fieldPlace n m) (inOrder (tagAt s n m) n m) (dataOctets (tagAt s n m)) (isFull (tagAt s n m) n m) (valuesGood s (tagAt s n m) n m)
+
+pub next-passes : (s : List ℕ) (n m : ℕ) → nextCode s n m ≡ 0 → Next s n m
+unfolding nextCode
+next-passes s n m z =
+    passed s (fieldPlace n m) (inOrder (tagAt s n m) n m) (dataOctets (tagAt s n m)) (isFull (tagAt s n m) n m) (valuesGood s (tagAt s n m) n m) z
+
+-- ---- a field that has the tag and is well
+module _ (s : List ℕ) (tag n m : ℕ) (e : goodField s tag n m ≡ true) where
+  pub good-tag : tagAt s n m ≡ tag
+  unfolding goodField
+  good-tag = eqb-true _ _ (both (eqb (tagAt s n m) tag) (eqb (nextCode s n m) 0) e .0)
+
+  pub good-code : nextCode s n m ≡ 0
+  unfolding goodField
+  good-code = eqb-true _ _ (both (eqb (tagAt s n m) tag) (eqb (nextCode s n m) 0) e .1)
+
+pub good-by : (s : List ℕ) (tag n m : ℕ) → tagAt s n m ≡ tag → nextCode s n m ≡ 0 → goodField s tag n m ≡ true
+unfolding goodField
+good-by s tag n m t z = ap₂ _&&_ (eq-eqb _ _ t) (eq-eqb _ _ z)
+
+module _ (s : List ℕ) (i : ℕ) (e : goodField s accountTag i 0 ≡ true) where
+  pub good-account : accountGood (accountFields s) i ≡ true
+  good-account =
+      values-account s (tagAt s i 0) i 0 (good-tag s accountTag i 0 e) ∙ next-passes s i 0 (good-code s accountTag i 0 e) .sound
+
+module _ (s : List ℕ) (n j : ℕ) (e : goodField s linkTag n j ≡ true) where
+  pub good-link : linkGood (accountFields s) (linkFields s n) n j ≡ true
+  good-link =
+      let t : tagAt s n j ≡ linkTag = good-tag s linkTag n j e in
+      values-link s (tagAt s n j) n j (λ a. omega arith) t ∙ next-passes s n j (good-code s linkTag n j e) .sound
+
+-- ---- the accounts and links that were counted
+pub counted-account : (s : List ℕ) (i : ℕ) → i < accountCount s → goodField s accountTag i 0 ≡ true
+unfolding accountCount
+counted-account s i l = leading-before (λ k. goodField s accountTag k 0) maxAccounts i l
+
+pub counted-link : (s : List ℕ) (n j : ℕ) → j < linkCount s n → goodField s linkTag n j ≡ true
+unfolding linkCount
+counted-link s n j l = leading-before (λ k. goodField s linkTag n k) maxLinks j l
+
+-- ---- an accepted image
+pub record Accepted (s : List ℕ) (q : Loaded) : Type 0 where
+  pub head-code : headCode s ≡ 0
+  pub end-code : nextCode s (q .accounts) (q .links) ≡ 0
+  pub accounts-are : q .accounts ≡ accountCount s
+  pub links-are : q .links ≡ linkCount s (q .accounts)
+  pub offset-is : q .offset ≡ length s
+  pub length-is : length s ≡ imageLength (q .accounts) (q .links)
+  pub constant-is : q .constant ≡ numberAt 4 s 4
+
+pub accepted : (s : List ℕ) → readImage s .code ≡ 0 → Accepted s (readImage s)
+accepted s =
+    by-reading s (λ q. q .code ≡ 0 → Accepted s q)
+    (λ d z. absurd (d z))
+    (λ h. by-end s (λ q. q .code ≡ 0 → Accepted s q) (accountCount s) (linkCount s (accountCount s))
+    (λ d z. absurd (d z))
+    (λ e l z. absurd (omega arith))
+    (λ e l z. record {
+      head-code = h;
+      end-code = e;
+      accounts-are = refl;
+      links-are = refl;
+      offset-is = refl;
+      length-is = let p = next-passes s (accountCount s) (linkCount s (accountCount s)) e .headed in omega arith;
+      constant-is = refl;
+    }))
+
+-- a refusal answers zeros
+abbrev pub Zeros : Loaded → Type 0
+Zeros q = (q .constant ≡ 0) × (q .accounts ≡ 0) × (q .links ≡ 0)
+
+pub refused-zeros : (s : List ℕ) → (readImage s .code ≡ 0 → ⊥) → Zeros (readImage s)
+refused-zeros s =
+    by-reading s (λ q. (q .code ≡ 0 → ⊥) → Zeros q)
+    (λ d f. (refl, refl, refl))
+    (λ h. by-end s (λ q. (q .code ≡ 0 → ⊥) → Zeros q) (accountCount s) (linkCount s (accountCount s))
+    (λ d f. (refl, refl, refl))
+    (λ e l f. (refl, refl, refl))
+    (λ e l f. absurd (f refl)))
+
+-- ---- the same of loading
+module _ (s : List ℕ) (r : Runs) (q : Loaded) (e : q ≡ answerFor s r) where
+  by-answer : (P : Loaded → Type 0)
+      → ((readImage s .code ≡ 0 → ⊥) → P (readImage s)) → (readImage s .code ≡ 0 → P (readImage s)) → P (refused 26 (length s)) → P q
+  by-answer P f g h = rw e (by-loading s (length (r .accounts)) (length (r .credits)) (length (r .lasts)) (length (r .links)) P f (λ z t. g z) (λ z t. h))
+
+  pub refused-none : (q .code ≡ 0 → ⊥) → (q .accounts ≡ 0) × (q .links ≡ 0)
+  refused-none =
+      by-answer (λ x. (x .code ≡ 0 → ⊥) → (x .accounts ≡ 0) × (x .links ≡ 0))
+      (λ d f. let z = refused-zeros s d in (z .1, z .2))
+      (λ z f. absurd (f z))
+      (λ f. (refl, refl))
+
+  pub loaded-good : q .code ≡ 0 → (i : ℕ) → i < q .accounts → accountGood (accountFields s) i ≡ true
+  loaded-good =
+      by-answer (λ x. x .code ≡ 0 → (i : ℕ) → i < x .accounts → accountGood (accountFields s) i ≡ true)
+      (λ d z. absurd (d z))
+      (λ z w i l. let k = accepted s z .accounts-are in good-account s i (counted-account s i (omega arith)))
+      (λ z. absurd (omega arith))

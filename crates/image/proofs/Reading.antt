@@ -1,0 +1,172 @@
+-- Laws of what reading and loading answer, case by case as the code makes them. Assumes nothing.
+use Prim.Native.Nat.{ℕ, suc, _+_, _*_, _≤_, _<_}
+use mathlib.Core.Bool.{Bool, true, false, not, _&&_}
+use mathlib.Core.List.{List}
+use mathlib.Core.Path.{_≡_, refl, sym, ap, ap₂, _∙_}
+use native.Mathlib.Omega.{arith}
+use lib.Dec.{ltb, leb, eqb}
+use lib.ListN.{length}
+use borrow.Author.Tests.{lt-ltb, le-ltb, ltb-true, ltb-false, le-leb, lt-leb, eq-eqb, ne-eqb, eqb-true, eqb-false, not-true, not-false}
+use Rattle.octets.specs.Numbers.{numberAt}
+use Rattle.octets.proofs.Tests.{split}
+use Rattle.tables.specs.Leading.{leading}
+use Rattle.tables.specs.Rows.{accountOctets, linkOctets}
+use Rattle.tables.proofs.Leading.{leading-on, leading-stop, leading-high}
+use Rattle.image.specs.Layout.{accountTag, linkTag, fieldPlace, dataPlace, imageLength, maxAccounts, maxLinks}
+use Rattle.image.specs.Read.{headCode, nextCode, goodField, accountCount, linkCount, refused, readEnd, readImage}
+use Rattle.image.specs.Loading.{runsHold, loadAnswer}
+use Rattle.image.specs.declared.Loaded.{Loaded}
+
+-- ---- counting
+module _ (f : ℕ → Bool) (i : ℕ) (s : leading f i ≡ i) (r : Bool) (e : r ≡ f i) where
+  pub count-stops : (n : ℕ) → i < n → not r ≡ true → i ≡ leading f n
+  count-stops n h q = sym (leading-stop f i n s (sym e ∙ not-true r q) h)
+
+  pub count-goes-on : not r ≡ false → leading f (suc i) ≡ suc i
+  count-goes-on q = leading-on f i s (sym e ∙ not-false r q)
+
+pub count-full : (f : ℕ → Bool) (i n : ℕ) → leading f i ≡ i → n ≤ i → i ≤ n → i ≡ leading f n
+count-full f i n s h k = let e : i ≡ n = omega arith in sym s ∙ ap (leading f) e
+
+pub few-accounts : (s : List ℕ) → accountCount s ≤ maxAccounts
+unfolding accountCount
+few-accounts s = leading-high (λ i. goodField s accountTag i 0) maxAccounts
+
+pub few-links : (s : List ℕ) (n : ℕ) → linkCount s n ≤ maxLinks
+unfolding linkCount
+few-links s n = leading-high (λ j. goodField s linkTag n j) maxLinks
+
+-- ---- the answer at the last field
+module _ (s : List ℕ) (n m : ℕ) (code : ℕ) (e : code ≡ nextCode s n m) where
+  pub end-refused : (code ≡ 0 → ⊥) → (at : ℕ) (q : Loaded) → at ≡ fieldPlace n m → q ≡ refused code at → q ≡ readEnd s n m
+  unfolding readEnd
+  end-refused d at q p v = v ∙ ap₂ refused e p ∙ simp (ne-eqb _ _ (λ z. d (e ∙ z)))
+
+  module _ (z : code ≡ 0) (end : ℕ) (p : end ≡ dataPlace n m) where
+    pub end-surplus : end < length s → (q : Loaded) → q ≡ refused 25 end → q ≡ readEnd s n m
+    unfolding readEnd
+    end-surplus h q v = v ∙ ap (refused 25) p ∙ simp (eq-eqb _ _ (sym e ∙ z), lt-ltb _ _ (rw p at h))
+
+    pub end-accepted : length s ≤ end → (k : ℕ) → k ≡ numberAt 4 s 4
+        → _≡_ {A = Loaded} (record { code = 0; offset = length s; constant = k; accounts = n; links = m }) (readEnd s n m)
+    unfolding readEnd
+    end-accepted h k c = rw c (simp (eq-eqb _ _ (sym e ∙ z), le-ltb _ _ (rw p at h)))
+
+-- ---- the answer
+module _ (s : List ℕ) (code : ℕ) (e : code ≡ headCode s) where
+  pub head-refused : (code ≡ 0 → ⊥) → (q : Loaded) → q ≡ refused code 0 → q ≡ readImage s
+  unfolding readImage
+  head-refused d q v = v ∙ ap (λ (k : ℕ). refused k 0) e ∙ simp (ne-eqb _ _ (λ z. d (e ∙ z)))
+
+  pub head-passed : code ≡ 0 → (n m : ℕ) (q : Loaded) → n ≡ accountCount s → m ≡ linkCount s n → q ≡ readEnd s n m → q ≡ readImage s
+  unfolding readImage
+  head-passed z n m q f g v =
+      v ∙ ap (readEnd s n) g ∙ ap (λ (k : ℕ). readEnd s k (linkCount s k)) f ∙ simp (eq-eqb _ _ (sym e ∙ z))
+
+-- ---- by cases of what reading answers
+module _ (s : List ℕ) (P : Loaded → Type 0) where
+  pub by-end : (n m : ℕ)
+      → ((nextCode s n m ≡ 0 → ⊥) → P (refused (nextCode s n m) (fieldPlace n m)))
+      → (nextCode s n m ≡ 0 → imageLength n m < length s → P (refused 25 (imageLength n m)))
+      → (nextCode s n m ≡ 0 → length s ≤ imageLength n m → P (record { code = 0; offset = length s; constant = numberAt 4 s 4; accounts = n; links = m }))
+      → P (readEnd s n m)
+  unfolding readEnd
+  by-end n m f g h =
+      split (eqb (nextCode s n m) 0)
+      (λ e.
+      split (ltb (imageLength n m) (length s))
+      (λ l. simp (e, l) (g (eqb-true _ _ e) (ltb-true _ _ l)))
+      (λ l. simp (e, l) (h (eqb-true _ _ e) (ltb-false _ _ l))))
+      (λ e. simp e (f (eqb-false _ _ e)))
+
+  pub by-reading : ((headCode s ≡ 0 → ⊥) → P (refused (headCode s) 0))
+      → (headCode s ≡ 0 → P (readEnd s (accountCount s) (linkCount s (accountCount s))))
+      → P (readImage s)
+  unfolding readImage
+  by-reading f g =
+      split (eqb (headCode s) 0)
+      (λ e. simp e (g (eqb-true _ _ e)))
+      (λ e. simp e (f (eqb-false _ _ e)))
+
+-- ---- counts of an answer are within the limits
+abbrev pub Few : Loaded → Type 0
+Few q = (q .accounts ≤ maxAccounts) × (q .links ≤ maxLinks)
+
+pub few-read : (s : List ℕ) → Few (readImage s)
+few-read s =
+    by-reading s Few
+    (λ d. (omega arith, omega arith))
+    (λ z. by-end s Few (accountCount s) (linkCount s (accountCount s))
+    (λ d. (omega arith, omega arith))
+    (λ e h. (omega arith, omega arith))
+    (λ e h. (few-accounts s, few-links s (accountCount s))))
+
+pub few-accounts-read : (s : List ℕ) (q : Loaded) → q ≡ readImage s → q .accounts ≤ maxAccounts
+few-accounts-read s q e = rw e (few-read s .0)
+
+pub few-links-read : (s : List ℕ) (q : Loaded) → q ≡ readImage s → q .links ≤ maxLinks
+few-links-read s q e = rw e (few-read s .1)
+
+-- ---- runs long enough
+module _ (n m accounts credits lasts links : ℕ) where
+  pub accounts-short : accounts < accountOctets * n → false ≡ runsHold n m accounts credits lasts links
+  unfolding runsHold
+  accounts-short h = simp (lt-leb _ _ h)
+
+  module _ (h1 : accountOctets * n ≤ accounts) where
+    pub credits-short : credits < n → false ≡ runsHold n m accounts credits lasts links
+    unfolding runsHold
+    credits-short h = simp (le-leb _ _ h1, lt-leb _ _ h)
+
+    module _ (h2 : n ≤ credits) where
+      pub lasts-short : lasts < n → false ≡ runsHold n m accounts credits lasts links
+      unfolding runsHold
+      lasts-short h = simp (le-leb _ _ h1, le-leb _ _ h2, lt-leb _ _ h)
+
+      pub links-tested : n ≤ lasts → leb (linkOctets * m) links ≡ runsHold n m accounts credits lasts links
+      unfolding runsHold
+      links-tested h = simp (le-leb _ _ h1, le-leb _ _ h2, le-leb _ _ h)
+
+-- ---- the answer of loading
+module _ (s : List ℕ) (accounts credits lasts links : ℕ) (q : Loaded) (e : q ≡ readImage s) where
+  pub load-refused : (q .code ≡ 0 → ⊥) → q ≡ loadAnswer s accounts credits lasts links
+  unfolding loadAnswer
+  load-refused d = e ∙ simp (ne-eqb _ _ (λ z. d (ap (λ (x : Loaded). x .code) e ∙ z)))
+
+  module _ (z : q .code ≡ 0) (r : Bool) (v : r ≡ runsHold (q .accounts) (q .links) accounts credits lasts links) where
+    held : r ≡ runsHold (readImage s .accounts) (readImage s .links) accounts credits lasts links
+    held = v ∙ ap (λ (x : Loaded). runsHold (x .accounts) (x .links) accounts credits lasts links) e
+
+    pub load-held : r ≡ true → q ≡ loadAnswer s accounts credits lasts links
+    unfolding loadAnswer
+    load-held t = e ∙ simp (eq-eqb _ _ (sym (ap (λ (x : Loaded). x .code) e) ∙ z), ← held, t)
+
+    pub load-short : r ≡ false → (w : Loaded) → w ≡ refused 26 (length s) → w ≡ loadAnswer s accounts credits lasts links
+    unfolding loadAnswer
+    load-short t w u = u ∙ simp (eq-eqb _ _ (sym (ap (λ (x : Loaded). x .code) e) ∙ z), ← held, t)
+
+-- by cases of what loading answers
+pub by-loading : (s : List ℕ) (accounts credits lasts links : ℕ) (P : Loaded → Type 0)
+    → ((readImage s .code ≡ 0 → ⊥) → P (readImage s))
+    → (readImage s .code ≡ 0 → runsHold (readImage s .accounts) (readImage s .links) accounts credits lasts links ≡ true → P (readImage s))
+    → (readImage s .code ≡ 0 → runsHold (readImage s .accounts) (readImage s .links) accounts credits lasts links ≡ false → P (refused 26 (length s)))
+    → P (loadAnswer s accounts credits lasts links)
+unfolding loadAnswer
+by-loading s accounts credits lasts links P f g h =
+    split (eqb (readImage s .code) 0)
+    (λ e.
+    split (runsHold (readImage s .accounts) (readImage s .links) accounts credits lasts links)
+    (λ t. simp (e, t) (g (eqb-true _ _ e) t))
+    (λ t. simp (e, t) (h (eqb-true _ _ e) t)))
+    (λ e. simp e (f (eqb-false _ _ e)))
+
+pub few-loaded : (s : List ℕ) (accounts credits lasts links : ℕ) → Few (loadAnswer s accounts credits lasts links)
+few-loaded s accounts credits lasts links =
+    by-loading s accounts credits lasts links Few (λ d. few-read s) (λ e t. few-read s) (λ e t. (omega arith, omega arith))
+
+module _ (s : List ℕ) (accounts credits lasts links : ℕ) (q : Loaded) (e : q ≡ loadAnswer s accounts credits lasts links) where
+  pub few-accounts-loaded : q .accounts ≤ maxAccounts
+  few-accounts-loaded = rw e (few-loaded s accounts credits lasts links .0)
+
+  pub few-links-loaded : q .links ≤ maxLinks
+  few-links-loaded = rw e (few-loaded s accounts credits lasts links .1)

@@ -1,0 +1,71 @@
+// How many accounts and links an image has, and what reading it answers.
+ghost use mathlib.Core.Path.{_≡_};
+ghost use Rattle.image.specs.Read.{accountCount, linkCount, refused, readEnd};
+use super::fields;
+use super::layout;
+use super::Loaded;
+
+// Code 25.
+const SURPLUS: u8 = 25;
+
+// The accounts behind the head, up to the first field that is none or is refused.
+pub(crate) fn count_accounts(image: &[u8]) -> u16
+    ensures { λ r. ⌜ r ≡ accountCount (now (image .entry)) ⌝ }
+{
+    let mut i: u16 = 0;
+    while i < layout::MAX_ACCOUNTS {
+        if !fields::good_field(image, layout::ACCOUNT_TAG, i, 0) {
+            return i;
+        }
+        i += 1;
+    }
+    i
+}
+
+// The links behind the accounts, up to the first field that is none or is refused.
+pub(crate) fn count_links(image: &[u8], accounts: u16) -> u16
+    ensures { λ r. ⌜ r ≡ linkCount (now (image .entry)) accounts ⌝ }
+{
+    let mut j: u16 = 0;
+    while j < layout::MAX_LINKS {
+        if !fields::good_field(image, layout::LINK_TAG, accounts, j) {
+            return j;
+        }
+        j += 1;
+    }
+    j
+}
+
+// A refusal: the code and the offset, and zeros.
+pub(crate) fn refused(code: u8, offset: usize) -> Loaded
+    ensures { λ r. ⌜ r ≡ refused code offset ⌝ }
+{
+    Loaded {
+        code,
+        offset,
+        constant: 0,
+        accounts: 0,
+        links: 0,
+    }
+}
+
+// The answer at the field behind so many accounts and links: its code, or what the end says.
+pub(crate) fn read_end(image: &[u8], accounts: u16, links: u16) -> Loaded
+    ensures { λ r. ⌜ r ≡ readEnd (now (image .entry)) accounts links ⌝ }
+{
+    let code = fields::next_code(image, accounts, links);
+    if code != 0 {
+        return refused(code, layout::field_place(accounts, links));
+    }
+    let end = layout::data_place(accounts, links);
+    if end < image.len() {
+        return refused(SURPLUS, end);
+    }
+    Loaded {
+        code: 0,
+        offset: image.len(),
+        constant: octets::u32_at(image, layout::CONSTANT_PLACE),
+        accounts: accounts as usize,
+        links: links as usize,
+    }
+}
