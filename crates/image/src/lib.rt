@@ -3,6 +3,7 @@ ghost use mathlib.Core.Path.{_≡_};
 ghost use Rattle.image.specs.Read.{readImage};
 ghost use Rattle.image.specs.Loading.{runsHold, loadAnswer, runsOf, loadingOf, loading};
 pub mod layout;
+pub mod reader;
 mod count;
 mod fields;
 mod fill;
