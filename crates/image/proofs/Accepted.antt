@@ -6,7 +6,7 @@ use mathlib.Core.Path.{_≡_, refl, sym, ap, ap₂, _∙_}
 use native.Mathlib.Omega.{arith}
 use lib.Dec.{ltb, leb, eqb}
 use lib.ListN.{length, getD}
-use borrow.Author.Tests.{le-leb, lt-leb, leb-true, leb-false, eq-eqb, eqb-true, eqb-false}
+use borrow.Author.Tests.{le-leb, lt-leb, leb-true, leb-false, eq-eqb, ne-eqb, eqb-true, eqb-false}
 use Rattle.octets.specs.Numbers.{numberAt}
 use Rattle.octets.proofs.Tests.{split, both}
 use Rattle.tables.specs.Rules.{accountGood, linkGood}
@@ -15,7 +15,7 @@ use Rattle.image.specs.Layout.{headTag, accountTag, linkTag, endTag, fie
 use Rattle.image.specs.Read.{fieldCode, headGood, headCode, accountFields, linkFields, inOrder, dataOctets, isFull, valuesGood, tagAt, nextCode, goodField, accountCount, linkCount, refused, readImage}
 use Rattle.image.specs.Loading.{Runs, answerFor}
 use Rattle.image.specs.declared.Loaded.{Loaded}
-use Rattle.image.proofs.Checks.{code-short, code-order, code-length, code-cut, code-full, code-bad, values-account, values-link}
+use Rattle.image.proofs.Checks.{code-short, code-order, code-length, code-cut, code-full, code-bad, values-account, values-link, full-account, full-link}
 use Rattle.image.proofs.Reading.{by-end, by-reading, by-loading}
 
 -- ---- a field that passes every check
@@ -179,3 +179,72 @@ module _ (s : List ℕ) (r : Runs) (q : Loaded) (e : q ≡ answerFor s r) where
       (λ d z. absurd (d z))
       (λ z w i l. let k = accepted s z .accounts-are in good-account s i (counted-account s i (omega arith)))
       (λ z. absurd (omega arith))
+
+-- ---- what ends the reading is the end
+ltb-of : {a b : ℕ} → leb a b ≡ false → b < a
+ltb-of {a} {b} e = leb-false a b e
+
+module _ (tag n m : ℕ) (o : inOrder tag n m ≡ true) where
+  none-first : n ≡ 0 → tag ≡ accountTag
+  unfolding inOrder
+  none-first z = eqb-true _ _ (rw (eq-eqb _ _ z) at o)
+
+  both-later : (n ≡ 0 → ⊥) → (m ≡ 0 → ⊥) → (tag ≡ linkTag → ⊥) → tag ≡ endTag
+  unfolding inOrder
+  both-later d f g = eqb-true _ _ (rw (ne-eqb _ _ d, ne-eqb _ _ f, ne-eqb _ _ g) at o)
+
+  links-wait : (n ≡ 0 → ⊥) → m ≡ 0 → (tag ≡ linkTag → ⊥) → tag ≡ accountTag
+  unfolding inOrder
+  links-wait d z g =
+      split (eqb tag accountTag)
+      (λ e. eqb-true _ _ e)
+      (λ e. absurd (false≢true (rw (ne-eqb _ _ d, eq-eqb _ _ z, e, ne-eqb _ _ g) at o)))
+
+module _ (s : List ℕ) (n m : ℕ) (an : n ≡ accountCount s) (am : m ≡ linkCount s n) (z : nextCode s n m ≡ 0) where
+  p : Next s n m
+  p = next-passes s n m z
+
+  not-link : tagAt s n m ≡ linkTag → ⊥
+  unfolding linkCount
+  not-link t =
+      let k : m < maxLinks = ltb-of (full-link (tagAt s n m) n m (λ a. omega arith) t ∙ p .few) in
+      false≢true (sym (leading-fails (λ j. goodField s linkTag n j) maxLinks (rw am at k)) ∙ rw am at (good-by s linkTag n m t z))
+
+  no-links : n ≡ 0 → m ≡ 0
+  no-links e =
+      split (eqb m 0)
+      (λ q. eqb-true _ _ q)
+      (λ q.
+      let d : (m ≡ 0 → ⊥) = eqb-false m 0 q in
+      let g : goodField s linkTag n 0 ≡ true = counted-link s n 0 (omega arith) in
+      let t : tagAt s n 0 ≡ linkTag = good-tag s linkTag n 0 g in
+      let a : tagAt s n 0 ≡ accountTag = none-first (tagAt s n 0) n 0 (next-passes s n 0 (good-code s linkTag n 0 g) .ordered) e in
+      absurd (omega arith))
+
+  not-account : m ≡ 0 → tagAt s n m ≡ accountTag → ⊥
+  unfolding accountCount
+  not-account e t =
+      let k : n < maxAccounts = ltb-of (full-account (tagAt s n m) n m t ∙ p .few) in
+      let g : goodField s accountTag n 0 ≡ true = rw e at (good-by s accountTag n m t z) in
+      false≢true (sym (leading-fails (λ i. goodField s accountTag i 0) maxAccounts (rw an at k)) ∙ rw an at g)
+
+  pub some-accounts : 1 ≤ n
+  some-accounts =
+      split (eqb n 0)
+      (λ q. let e = eqb-true _ _ q in absurd (not-account (no-links e) (none-first (tagAt s n m) n m (p .ordered) e)))
+      (λ q. let d : (n ≡ 0 → ⊥) = eqb-false n 0 q in omega arith)
+
+  pub some-links : 1 ≤ m
+  some-links =
+      split (eqb m 0)
+      (λ q.
+      let e = eqb-true _ _ q in
+      let h = some-accounts in
+      absurd (not-account e (links-wait (tagAt s n m) n m (p .ordered) (λ x. omega arith) e not-link)))
+      (λ q. let d : (m ≡ 0 → ⊥) = eqb-false m 0 q in omega arith)
+
+  pub end-tag : tagAt s n m ≡ endTag
+  end-tag =
+      let h = some-accounts in
+      let k = some-links in
+      both-later (tagAt s n m) n m (p .ordered) (λ x. omega arith) (λ x. omega arith) not-link

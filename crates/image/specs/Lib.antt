@@ -1,3 +1,5 @@
+pub mod Claims
+pub mod Fresh
 pub mod Layout
 pub mod Loading
 pub mod Read
