@@ -143,41 +143,6 @@ module _ (s : List ℕ) (tag n m : ℕ) where
     unfolding valuesGood
     values-end k = simp (ne-eqb _ _ h, ne-eqb _ _ k)
 
--- ---- the values of an account, at the place where they are read
-pub account-read : (s : List ℕ) (i at : ℕ) (p : Terms) (r : Bool) → at ≡ dataPlace i 0 → p ≡ termsAt s at → r ≡ inLimits p → r ≡ accountGood (accountFields s) i
-unfolding accountGood
-account-read s i at p r e f g = g ∙ ap inLimits (f ∙ ap (termsAt s) (e ∙ account-place i))
-
-pub smax-read : (s : List ℕ) (i at x : ℕ) → at ≡ dataPlace i 0 → x ≡ numberAt 2 s at → x ≡ accountIn (accountFields s) i .smax
-unfolding termsAt
-smax-read s i at x e f = f ∙ ap (numberAt 2 s) (e ∙ account-place i)
-
--- ---- the values of a link
-module _ (s : List ℕ) (n j : ℕ) where
-  pub rises-first : j ≡ 0 → true ≡ numberRises (linkFields s n) j
-  unfolding numberRises
-  rises-first e = simp (eq-eqb _ _ e)
-
-  pub rises-later : (j ≡ 0 → ⊥) → (a b x y : ℕ) → a ≡ dataPlace n (j - 1) → x ≡ numberAt 2 s a → b ≡ dataPlace n j → y ≡ numberAt 2 s b
-      → ltb x y ≡ numberRises (linkFields s n) j
-  unfolding numberRises linkAt
-  rises-later d a b x y e f g h =
-      ap₂ ltb (f ∙ ap (numberAt 2 s) (e ∙ link-place n (j - 1))) (h ∙ ap (numberAt 2 s) (g ∙ link-place n j)) ∙ simp (ne-eqb _ _ d)
-
-  module _ (r : Bool) (e : r ≡ numberRises (linkFields s n) j) where
-    pub link-falls : not r ≡ true → false ≡ linkGood (accountFields s) (linkFields s n) n j
-    unfolding linkGood
-    link-falls h = simp (← e, not-true r h)
-
-    pub link-read : not r ≡ false → (at : ℕ) (l : Link) (x : ℕ) (z : Bool) → at ≡ dataPlace n j → l ≡ linkAt s at
-        → x ≡ accountIn (accountFields s) (l .account) .smax → z ≡ linkSound l n x → z ≡ linkGood (accountFields s) (linkFields s n) n j
-    unfolding linkGood
-    link-read h at l x z f g u v =
-        let m : l ≡ linkIn (linkFields s n) j = g ∙ ap (linkAt s) (f ∙ link-place n j) in
-        v ∙ ap (linkSound l n) u
-        ∙ ap (λ (k : Link). linkSound k n (accountIn (accountFields s) (k .account) .smax)) m
-        ∙ simp (← e, not-false r h)
-
 -- ---- the field behind n accounts and m links
 module _ (s : List ℕ) (n m at tag : ℕ) (e : at ≡ fieldPlace n m) (t : tag ≡ getD s at 0) where
   pub tag-is : tag ≡ tagAt s n m

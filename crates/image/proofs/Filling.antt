@@ -11,7 +11,7 @@ use borrow.Author.Tests.{eqb-true, eqb-false}
 use Rattle.octets.proofs.Tests.{split}
 use Rattle.octets.specs.Runs.{octetsAt, joined, put}
 use Rattle.octets.proofs.Parts.{length-part, part-same, getD-clamped, length-joined, joined-same}
-use Rattle.octets.proofs.Runs.{put-beside, put-next, put-none}
+use Rattle.octets.proofs.Runs.{put-next, put-none, lay-next}
 use Rattle.account.specs.Terms.{inLimits, capacity}
 use Rattle.account.specs.Account.{accountOf, capacityOf, valid}
 use Rattle.account.specs.declared.Account.{Account}
@@ -25,23 +25,7 @@ use Rattle.image.specs.declared.Loaded.{Loaded}
 use Rattle.image.proofs.Accepted.{loaded-good, refused-none}
 use Rattle.image.proofs.Checks.{account-place}
 
--- ---- one run more behind those that are laid
-module _ (f : ℕ → List ℕ) (w : ℕ) (each : (i : ℕ) → length (f i) ≡ w) (d : List ℕ) where
-  pub fill-start : d ≡ put d 0 (joined f 0)
-  unfolding joined
-  fill-start = sym (put-none d 0)
-
-  pub fill-next : (n i : ℕ) → w * n ≤ length d → i < n → put (put d 0 (joined f i)) (w * i) (f i) ≡ put d 0 (joined f (suc i))
-  unfolding joined
-  fill-next n i h l =
-      let j : length (joined f i) ≡ w * i = length-joined f w each i in
-      let k : length (f i) ≡ w = each i in
-      let m : w * i + w ≤ w * n = rw (← mul-suc w i) (mul-le-mul-left w l) in
-      let z : 0 + length (joined f i) ≡ w * i = zero-add (length (joined f i)) ∙ j in
-      ap (λ (p : ℕ). put (put d 0 (joined f i)) p (f i)) (sym z)
-      ∙ put-beside d 0 (joined f i) (f i) (omega arith)
-
--- one element more
+-- ---- one element more
 module _ (f : ℕ → List ℕ) (d : List ℕ) (n i x : ℕ) (h : n ≤ length d) (l : i < n) (e : f i ≡ x ∷ []) (j : length (joined f i) ≡ i) where
   pub fill-one : set (put d 0 (joined f i)) i x ≡ put d 0 (joined f (suc i))
   unfolding joined
@@ -82,7 +66,8 @@ pub row-laid : (s d e : List ℕ) (first start size n i : ℕ) → start ≡ min
 row-laid s d e first start size n i p h l v =
     let f : ℕ → List ℕ = rowOctets size (fieldRows s first size) in
     v ∙ ap (put (put d 0 (joined f i)) (size * i)) (row-clamped s first start size i p)
-    ∙ fill-next f size (λ k. length-part size s (first + (fieldHead + size) * k)) d n i h l
+    ∙ ap (λ (q : ℕ). put (put d 0 (joined f i)) q (f i)) (sym (zero-add (size * i)))
+    ∙ lay-next f size (λ k. length-part size s (first + (fieldHead + size) * k)) d 0 n i (rw (zero-add (size * n)) h) l
 
 -- all of them, of accounts and of links
 module _ (s d e : List ℕ) (at : ℕ) where

@@ -9,25 +9,14 @@ use lib.ListN.{length}
 use borrow.Author.Tests.{lt-ltb, le-ltb, ltb-true, ltb-false, le-leb, lt-leb, eq-eqb, ne-eqb, eqb-true, eqb-false, not-true, not-false}
 use Rattle.octets.specs.Numbers.{numberAt}
 use Rattle.octets.proofs.Tests.{split}
-use Rattle.tables.specs.Leading.{leading}
 use Rattle.tables.specs.Rows.{accountOctets, linkOctets}
-use Rattle.tables.proofs.Leading.{leading-on, leading-stop, leading-high}
+use Rattle.tables.proofs.Leading.{leading-high}
 use Rattle.image.specs.Layout.{accountTag, linkTag, fieldPlace, dataPlace, imageLength, maxAccounts, maxLinks}
 use Rattle.image.specs.Read.{headCode, nextCode, goodField, accountCount, linkCount, refused, readEnd, readImage}
 use Rattle.image.specs.Loading.{runsHold, loadAnswer}
 use Rattle.image.specs.declared.Loaded.{Loaded}
 
--- ---- counting
-module _ (f : ℕ → Bool) (i : ℕ) (s : leading f i ≡ i) (r : Bool) (e : r ≡ f i) where
-  pub count-stops : (n : ℕ) → i < n → not r ≡ true → i ≡ leading f n
-  count-stops n h q = sym (leading-stop f i n s (sym e ∙ not-true r q) h)
-
-  pub count-goes-on : not r ≡ false → leading f (suc i) ≡ suc i
-  count-goes-on q = leading-on f i s (sym e ∙ not-false r q)
-
-pub count-full : (f : ℕ → Bool) (i n : ℕ) → leading f i ≡ i → n ≤ i → i ≤ n → i ≡ leading f n
-count-full f i n s h k = let e : i ≡ n = omega arith in sym s ∙ ap (leading f) e
-
+-- ---- counts are within the limits
 pub few-accounts : (s : List ℕ) → accountCount s ≤ maxAccounts
 unfolding accountCount
 few-accounts s = leading-high (λ i. goodField s accountTag i 0) maxAccounts
@@ -88,7 +77,7 @@ module _ (s : List ℕ) (P : Loaded → Type 0) where
       (λ e. simp e (g (eqb-true _ _ e)))
       (λ e. simp e (f (eqb-false _ _ e)))
 
--- ---- counts of an answer are within the limits
+-- ---- so are those of an answer
 abbrev pub Few : Loaded → Type 0
 Few q = (q .accounts ≤ maxAccounts) × (q .links ≤ maxLinks)
 

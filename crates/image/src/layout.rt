@@ -30,9 +30,9 @@ pub const MAX_ACCOUNTS: u16 = 64;
 pub const MAX_LINKS: u16 = 256;
 
 // The octet of the head's edition, and the first of its constant field.
-pub(crate) const EDITION_PLACE: usize = 3;
+pub const EDITION_PLACE: usize = 3;
 
-pub(crate) const CONSTANT_PLACE: usize = 4;
+pub const CONSTANT_PLACE: usize = 4;
 
 // The offset of the field behind so many accounts and links.
 pub fn field_place(accounts: u16, links: u16) -> usize

@@ -1,10 +1,10 @@
 -- Laws of how far a test goes on holding. Clients use these and leave the definition shut. Assumes nothing.
 use Prim.Native.Nat.{ℕ, zero, suc, _≤_, _<_}
-use mathlib.Core.Bool.{Bool, true, false, _&&_, false≢true}
+use mathlib.Core.Bool.{Bool, true, false, not, _&&_, false≢true}
 use mathlib.Core.Path.{_≡_, refl, sym, ap, ap₂, _∙_}
 use native.Mathlib.Omega.{arith}
 use lib.Dec.{leb, eqb}
-use borrow.Author.Tests.{leb-true, leb-false, eq-eqb, ne-eqb, eqb-true}
+use borrow.Author.Tests.{leb-true, leb-false, eq-eqb, ne-eqb, eqb-true, not-true, not-false}
 use Rattle.octets.specs.Choice.{if_then_else_}
 use Rattle.octets.proofs.Tests.{split, both}
 use Rattle.tables.specs.Leading.{leading}
@@ -105,3 +105,14 @@ pub leading-same : (f g : ℕ → Bool) (n : ℕ) → ((k : ℕ) → k < n → f
 unfolding leading
 leading-same f g zero h = refl
 leading-same f g (suc n) h = rw (leading-same f g n (λ k l. h k (omega arith)), h n (omega arith))
+
+-- ---- as a loop goes: i indexes seen, the test at i in hand
+module _ (f : ℕ → Bool) (i : ℕ) (s : leading f i ≡ i) (r : Bool) (e : r ≡ f i) where
+  pub count-stops : (n : ℕ) → i < n → not r ≡ true → i ≡ leading f n
+  count-stops n h q = sym (leading-stop f i n s (sym e ∙ not-true r q) h)
+
+  pub count-goes-on : not r ≡ false → leading f (suc i) ≡ suc i
+  count-goes-on q = leading-on f i s (sym e ∙ not-false r q)
+
+pub count-full : (f : ℕ → Bool) (i n : ℕ) → leading f i ≡ i → n ≤ i → i ≤ n → i ≡ leading f n
+count-full f i n s h k = let e : i ≡ n = omega arith in sym s ∙ ap (leading f) e

@@ -8,8 +8,9 @@ use borrow.Author.Tests.{lt-ltb, le-ltb, ltb-true, ltb-false, le-leb, lt-leb, le
 use Rattle.octets.specs.Choice.{if_then_else_}
 use Rattle.octets.proofs.Tests.{split, both}
 use Rattle.frame.specs.Limits.{smallestFrame}
-use Rattle.account.specs.Terms.{Terms}
-use Rattle.tables.specs.Rows.{Rows, accountIn, linkIn}
+use Rattle.octets.specs.Numbers.{numberAt}
+use Rattle.account.specs.Terms.{Terms, inLimits}
+use Rattle.tables.specs.Rows.{Rows, rowPlace, termsAt, linkAt, accountIn, linkIn}
 use Rattle.tables.specs.Rules.{portCount, portsSound, sizesSound, linkSound, accountGood, numberRises, linkGood}
 use Rattle.tables.specs.declared.Link.{Link}
 
@@ -86,3 +87,38 @@ link-good-same a b l m n j h e f =
     let g : linkSound (linkIn l j) n (accountIn a (linkIn l j .account) .smax) ≡ linkSound (linkIn m j) n (accountIn b (linkIn m j .account) .smax) =
     rw e (sound-same (linkIn m j) n _ _ (λ k. ap (λ (p : Terms). p .smax) (h (linkIn m j .account) k))) in
     ap₂ _&&_ (rises-same l m j e f) g
+
+-- ---- rows read at their places
+module _ (a : Rows) (i at : ℕ) (e : at ≡ rowPlace a i) where
+  pub account-row : (p : Terms) (r : Bool) → p ≡ termsAt (a .octets) at → r ≡ inLimits p → r ≡ accountGood a i
+  unfolding accountGood
+  account-row p r f g = g ∙ ap inLimits (f ∙ ap (termsAt (a .octets)) e)
+
+  pub smax-row : (x : ℕ) → x ≡ numberAt 2 (a .octets) at → x ≡ accountIn a i .smax
+  unfolding termsAt
+  smax-row x f = f ∙ ap (numberAt 2 (a .octets)) e
+
+module _ (l : Rows) (j : ℕ) where
+  pub rises-first : j ≡ 0 → true ≡ numberRises l j
+  unfolding numberRises
+  rises-first e = simp (eq-eqb _ _ e)
+
+  pub rises-later : (j ≡ 0 → ⊥) → (a b x y : ℕ) → a ≡ rowPlace l (j - 1) → x ≡ numberAt 2 (l .octets) a → b ≡ rowPlace l j → y ≡ numberAt 2 (l .octets) b
+      → ltb x y ≡ numberRises l j
+  unfolding numberRises linkAt
+  rises-later d a b x y e f g h =
+      ap₂ ltb (f ∙ ap (numberAt 2 (l .octets)) e) (h ∙ ap (numberAt 2 (l .octets)) g) ∙ simp (ne-eqb _ _ d)
+
+module _ (a l : Rows) (n j : ℕ) (r : Bool) (e : r ≡ numberRises l j) where
+  pub link-falls : not r ≡ true → false ≡ linkGood a l n j
+  unfolding linkGood
+  link-falls h = simp (← e, not-true r h)
+
+  pub link-row : not r ≡ false → (at : ℕ) (k : Link) (x : ℕ) (z : Bool) → at ≡ rowPlace l j → k ≡ linkAt (l .octets) at
+      → x ≡ accountIn a (k .account) .smax → z ≡ linkSound k n x → z ≡ linkGood a l n j
+  unfolding linkGood
+  link-row h at k x z f g u v =
+      let m : k ≡ linkIn l j = g ∙ ap (linkAt (l .octets)) f in
+      v ∙ ap (linkSound k n) u
+      ∙ ap (λ (b : Link). linkSound b n (accountIn a (b .account) .smax)) m
+      ∙ simp (← e, not-false r h)

@@ -55,12 +55,15 @@ linkIn r j = linkAt (r .octets) (rowPlace r j)
 abbrev pub rowOctets : ℕ → Rows → ℕ → List ℕ
 rowOctets w r i = octetsAt w (r .octets) (rowPlace r i)
 
--- a table of accounts and one of links
+-- rows of w octets that touch; a table of accounts and one of links
+abbrev pub tableOf : ℕ → List ℕ → Rows
+tableOf w s = record { octets = s; first = 0; step = w }
+
 abbrev pub accountTable : List ℕ → Rows
-accountTable s = record { octets = s; first = 0; step = accountOctets }
+accountTable s = tableOf accountOctets s
 
 abbrev pub linkTable : List ℕ → Rows
-linkTable s = record { octets = s; first = 0; step = linkOctets }
+linkTable s = tableOf linkOctets s
 
 -- link rows in use ("Accounts and links"): a count larger than the rows lent is read as those; a row in part is none
 abbrev pub linksInUse : List ℕ → ℕ → ℕ

@@ -4,10 +4,9 @@ use mathlib.Core.Path.{_≡_}
 use native.Mathlib.Numerals.{add-one}
 use native.Mathlib.Omega.{arith}
 use Rattle.tables.specs.Leading.{leading}
-use Rattle.tables.proofs.Leading.{leading-zero}
+use Rattle.tables.proofs.Leading.{leading-zero, count-stops, count-goes-on, count-full}
 use Rattle.image.specs.Layout.{accountTag, maxAccounts}
 use Rattle.image.specs.Read.{goodField, accountCount}
-use Rattle.image.proofs.Reading.{count-stops, count-goes-on, count-full}
 use borrow.Author.Needs.{needs}
 use Rattle.image.proofs.count.count_accounts.Statement.{statement}
 use Rattle.image.proofs.count.count_accounts.Tie as tie

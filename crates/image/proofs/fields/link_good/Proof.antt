@@ -1,5 +1,8 @@
 -- `link_good`: the number, then the other values. Assumes nothing.
-use Rattle.image.proofs.Checks.{link-falls, link-read}
+use mathlib.Core.Path.{_∙_}
+use Rattle.tables.proofs.Rules.{link-falls, link-row}
+use Rattle.image.specs.Read.{accountFields, linkFields}
+use Rattle.image.proofs.Checks.{link-place}
 use borrow.Author.Needs.{needs}
 use Rattle.image.proofs.fields.link_good.Statement.{statement}
 use Rattle.image.proofs.fields.link_good.Tie as tie
@@ -8,7 +11,7 @@ number-rises-requires : tie.Need-number-rises-requires
 number-rises-requires c κs = search needs
 
 returns : tie.Need-returns
-returns c = link-falls _ _ _ _ (c .before .number-rises .ensures) (c .if1 .taken)
+returns c = link-falls _ _ _ _ _ (c .before .number-rises .ensures) (c .if1 .taken)
 
 data-place-requires : tie.Need-data-place-requires
 data-place-requires c κs = search needs
@@ -23,7 +26,7 @@ sound-requires : tie.Need-sound-requires
 sound-requires c κs = search needs
 
 returns-2 : tie.Need-returns-2
-returns-2 c = link-read _ _ _ _ (c .before .before .before .before .before .number-rises .ensures) (c .before .before .before .before .if1 .left) _ _ _ _ (c .before .before .before .data-place .ensures) (c .before .before .link-at .ensures) (c .before .smax-of .ensures) (c .sound .ensures)
+returns-2 c = link-row (accountFields _) (linkFields _ _) _ _ _ (c .before .before .before .before .before .number-rises .ensures) (c .before .before .before .before .if1 .left) _ _ _ _ (c .before .before .before .data-place .ensures ∙ link-place _ _) (c .before .before .link-at .ensures) (c .before .smax-of .ensures) (c .sound .ensures)
 
 pub link-good-spec : {M : Type 1} → statement M
 link-good-spec =

@@ -1,5 +1,8 @@
 -- `smax_of`: the first two octets of the account's data. Assumes nothing.
-use Rattle.image.proofs.Checks.{smax-read}
+use mathlib.Core.Path.{_∙_}
+use Rattle.tables.proofs.Rules.{smax-row}
+use Rattle.image.specs.Read.{accountFields}
+use Rattle.image.proofs.Checks.{account-place}
 use borrow.Author.Needs.{needs}
 use Rattle.image.proofs.fields.smax_of.Statement.{statement}
 use Rattle.image.proofs.fields.smax_of.Tie as tie
@@ -11,7 +14,7 @@ u16-at-requires : tie.Need-u16-at-requires
 u16-at-requires c κs = search needs
 
 returns : tie.Need-returns
-returns c = smax-read _ _ _ _ (c .before .data-place .ensures) (c .u16-at .ensures)
+returns c = smax-row (accountFields _) _ _ (c .before .data-place .ensures ∙ account-place _) _ (c .u16-at .ensures)
 
 pub smax-of-spec : {M : Type 1} → statement M
 smax-of-spec = tie.close (tie.spec data-place-requires u16-at-requires returns)

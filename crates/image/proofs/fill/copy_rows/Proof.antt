@@ -8,11 +8,11 @@ use native.Mathlib.Omega.{arith}
 use lib.ListN.{length}
 use Rattle.octets.specs.Runs.{octetsAt, joined, put}
 use Rattle.octets.proofs.Parts.{length-part, length-joined}
-use Rattle.octets.proofs.Runs.{put-refused, length-laid}
+use Rattle.octets.proofs.Runs.{put-refused, length-laid, lay-none}
 use Rattle.octets.proofs.Tests.{has-room-first}
 use Rattle.tables.specs.Rows.{rowOctets}
 use Rattle.image.specs.Read.{fieldRows}
-use Rattle.image.proofs.Filling.{fill-start, row-laid, small-product}
+use Rattle.image.proofs.Filling.{row-laid, small-product}
 use borrow.Author.Needs.{needs}
 use Rattle.image.proofs.fill.copy_rows.Statement.{statement}
 use Rattle.image.proofs.fill.copy_rows.Tie as tie
@@ -40,7 +40,7 @@ least-requires : tie.Need-least-requires Inv-loop μ-loop
 least-requires c κs = search needs
 
 loop-holds : tie.Need-loop-holds Inv-loop μ-loop
-loop-holds c = (omega arith, fill-start (rowOctets (c .before .before .before .before .before .args .size) (fieldRows (c .before .before .before .before .before .args .image .now) (c .before .before .before .before .before .args .first) (c .before .before .before .before .before .args .size))) _ (λ i. length-part _ _ _) _, refl)
+loop-holds c = (omega arith, lay-none (rowOctets (c .before .before .before .before .before .args .size) (fieldRows (c .before .before .before .before .before .args .image .now) (c .before .before .before .before .before .args .first) (c .before .before .before .before .before .args .size))) _ (λ i. length-part _ _ _) _ 0, refl)
 
 add-at : tie.Need-add-at Inv-loop μ-loop
 add-at c = search needs

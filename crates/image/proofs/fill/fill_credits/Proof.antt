@@ -8,9 +8,9 @@ use native.Mathlib.Omega.{arith}
 use lib.ListN.{length, length-set}
 use Rattle.octets.specs.Runs.{joined, put}
 use Rattle.octets.proofs.Parts.{length-joined}
-use Rattle.octets.proofs.Runs.{put-refused}
+use Rattle.octets.proofs.Runs.{put-refused, lay-none}
 use Rattle.octets.proofs.Tests.{has-room-first}
-use Rattle.image.proofs.Filling.{methodCapacity, fill-start, fill-one}
+use Rattle.image.proofs.Filling.{methodCapacity, fill-one}
 use borrow.Author.Needs.{needs}
 use Rattle.image.proofs.fill.fill_credits.Statement.{statement}
 use Rattle.image.proofs.fill.fill_credits.Tie as tie
@@ -32,7 +32,7 @@ returns : tie.Need-returns Inv-loop μ-loop
 returns c = put-refused _ _ _ _ _ (c .before .has-room .ensures) (length-joined (methodCapacity (c .before .before .before .before .args .image .now)) 1 (λ i. refl) _ ∙ one-mul _) (c .if1 .taken)
 
 loop-holds : tie.Need-loop-holds Inv-loop μ-loop
-loop-holds c = (omega arith, fill-start (methodCapacity (c .before .before .before .before .args .image .now)) 1 (λ i. refl) _, refl)
+loop-holds c = (omega arith, lay-none (methodCapacity (c .before .before .before .before .args .image .now)) 1 (λ i. refl) _ 0, refl)
 
 capacity-of-requires : tie.Need-capacity-of-requires Inv-loop μ-loop
 capacity-of-requires c κs = search needs
