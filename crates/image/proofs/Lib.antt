@@ -1,4 +1,7 @@
 pub mod Accepted
 pub mod Checks
+pub mod Claims
 pub mod Filling
+pub mod Fresh
+pub mod Prefix
 pub mod Reading

@@ -1,9 +1,9 @@
 // How many accounts and links an image has, and what reading it answers.
 ghost use mathlib.Core.Path.{_≡_};
 ghost use Rattle.image.specs.Read.{accountCount, linkCount, refused, readEnd};
+use super::Loaded;
 use super::fields;
 use super::layout;
-use super::Loaded;
 
 // Code 25.
 const SURPLUS: u8 = 25;

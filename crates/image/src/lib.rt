@@ -2,11 +2,12 @@
 ghost use mathlib.Core.Path.{_≡_};
 ghost use Rattle.image.specs.Read.{readImage};
 ghost use Rattle.image.specs.Loading.{runsHold, loadAnswer, runsOf, loadingOf, loading};
-pub mod layout;
-pub mod reader;
+
 mod count;
 mod fields;
 mod fill;
+pub mod layout;
+pub mod reader;
 
 // Code 26.
 const NO_ROOM: u8 = 26;
@@ -35,14 +36,7 @@ pub fn check(image: &[u8]) -> Loaded
 }
 
 // Whether runs of these lengths hold so many accounts and links.
-fn runs_hold(
-    n: u16,
-    m: u16,
-    accounts: usize,
-    credits: usize,
-    lasts: usize,
-    links: usize,
-) -> bool
+fn runs_hold(n: u16, m: u16, accounts: usize, credits: usize, lasts: usize, links: usize) -> bool
     ensures { λ r. ⌜ r ≡ runsHold n m accounts credits lasts links ⌝ }
 {
     if accounts < tables::ACCOUNT_OCTETS * n as usize {

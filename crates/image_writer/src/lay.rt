@@ -44,13 +44,27 @@ fn put_fields(room: &mut [u8], at: usize, tag: u8, rows: &[u8], size: u8, n: u16
     }
     let mut i: u16 = 0;
     while i < n {
-        put_field(room, at + step * i as usize, tag, rows, wide * i as usize, size);
+        put_field(
+            room,
+            at + step * i as usize,
+            tag,
+            rows,
+            wide * i as usize,
+            size,
+        );
         i += 1;
     }
 }
 
 // The whole image.
-pub(crate) fn put_image(constant: u32, accounts: &[u8], n: u16, links: &[u8], m: u16, room: &mut [u8])
+pub(crate) fn put_image(
+    constant: u32,
+    accounts: &[u8],
+    n: u16,
+    links: &[u8],
+    m: u16,
+    room: &mut [u8],
+)
     ensures { λ r. ⌜ now (room .exit) ≡ put (now (room .entry)) 0 (imageOf (configOf constant (now (accounts .entry)) n (now (links .entry)) m)) ⌝ }
 {
     if !octets::has_room(room.len(), 0, layout::data_place(n, m)) {

@@ -1,8 +1,10 @@
 // Writing a configuration image from a constant field and the first rows of two tables.
 ghost use mathlib.Core.Path.{_≡_};
 ghost use Rattle.image_writer.specs.Writing.{configOf, countGood, countsGood, writeAnswer, writingOf, writing};
+
 mod lay;
 mod values;
+
 use image::layout;
 
 // Codes 24 and 26.
@@ -42,12 +44,7 @@ fn counts_good(accounts: &[u8], n: usize, links: &[u8], m: usize) -> bool
     ) {
         return false;
     }
-    count_good(
-        m,
-        layout::MAX_LINKS,
-        tables::LINK_OCTETS as u8,
-        links.len(),
-    )
+    count_good(m, layout::MAX_LINKS, tables::LINK_OCTETS as u8, links.len())
 }
 
 // What writing answers, by the rows, the counts and the length of the room.

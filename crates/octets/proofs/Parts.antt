@@ -143,4 +143,3 @@ part-joined w (suc n) s at =
     ap (λ (v : ℕ). octetsAt v s at) (mul-suc w n)
     ∙ part-join (w * n) w s at
     ∙ ap (λ (xs : List ℕ). xs ++ octetsAt w s (at + w * n)) (part-joined w n s at)
-

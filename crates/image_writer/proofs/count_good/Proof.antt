@@ -1,23 +1,21 @@
+-- `count_good`: test by test; the product is below the limit times a row. Assumes nothing.
+use native.Mathlib.Omega.{arith}
+use Rattle.image_writer.proofs.Answers.{count-none, count-over, count-tested}
+use Rattle.image_writer.proofs.Laying.{small-product}
 use Rattle.image_writer.proofs.count_good.Statement.{statement}
 use Rattle.image_writer.proofs.count_good.Tie as tie
-use Rattle.image_writer.proofs.count_good.Reads as reads
-use Rattle.image_writer.proofs.count_good.Lts as lts
 
--- src/lib.rt:25:9
 returns : tie.Need-returns
-returns c = ?
+returns c = count-none _ _ _ _ (c .if1 .taken)
 
--- src/lib.rt:28:9
 returns-2 : tie.Need-returns-2
-returns-2 c = ?
+returns-2 c = count-over _ _ _ _ (c .before .if1 .left) (c .if2 .taken)
 
--- src/lib.rt:30:5
 mul-result : tie.Need-mul-result
-mul-result c = ?
+mul-result c = let p = small-product (c .before .before .args .size) (c .before .before .args .n) (omega arith) (omega arith) in omega arith
 
--- src/lib.rt:21:1
 returns-3 : tie.Need-returns-3
-returns-3 c = ?
+returns-3 c = count-tested _ _ _ _ (c .before .if1 .left) (c .if2 .left)
 
 pub count-good-spec : {M : Type 1} → statement M
 count-good-spec = tie.close (tie.spec returns returns-2 mul-result returns-3)

@@ -1,33 +1,26 @@
+-- `counts_good`: the accounts, then the links. Assumes nothing.
+use Rattle.image_writer.proofs.Answers.{accounts-bad, links-left}
 use borrow.Author.Needs.{needs}
 use Rattle.image_writer.proofs.counts_good.Statement.{statement}
 use Rattle.image_writer.proofs.counts_good.Tie as tie
-use Rattle.image_writer.proofs.counts_good.Reads as reads
-use Rattle.image_writer.proofs.counts_good.Lts as lts
-use Rattle.image_writer.proofs.count_good.Reads as count-good-reads
 
--- src/lib.rt:40:9
 cast-count-good : tie.Need-cast-count-good
 cast-count-good c = search needs
 
--- src/lib.rt:37:9
 count-good-requires : tie.Need-count-good-requires
 count-good-requires c κs = search needs
 
--- src/lib.rt:43:9
 returns : tie.Need-returns
-returns c = ?
+returns c = accounts-bad _ _ _ _ _ (c .before .count-good .ensures) (c .if1 .taken)
 
--- src/lib.rt:48:9
 cast-count-good-2 : tie.Need-cast-count-good-2
 cast-count-good-2 c = search needs
 
--- src/lib.rt:45:5
 count-good-requires-2 : tie.Need-count-good-requires-2
 count-good-requires-2 c κs = search needs
 
--- src/lib.rt:34:1
 returns-2 : tie.Need-returns-2
-returns-2 c = ?
+returns-2 c = links-left _ _ _ _ _ (c .before .before .count-good .ensures) (c .before .if1 .left) _ (c .count-good2 .ensures)
 
 pub counts-good-spec : {M : Type 1} → statement M
 counts-good-spec =

@@ -69,8 +69,8 @@ loop-again c =
     let start = c .before .before .before .least .ensures in (
       omega arith,
       rw (add-one i, c .before .before .loop .inv .1)
-      (put-grows (a .to .now) (a .place) (a .from .now) (a .at) i _ (omega arith)
-      (c .octet-at .ensures ∙ ap (λ (n : ℕ). getD (a .from .now) (n + i) 0) start ∙ getD-clamped (a .from .now) (a .at) i)),
+          (put-grows (a .to .now) (a .place) (a .from .now) (a .at) i _ (omega arith)
+          (c .octet-at .ensures ∙ ap (λ (n : ℕ). getD (a .from .now) (n + i) 0) start ∙ getD-clamped (a .from .now) (a .at) i)),
       simp length-set (c .before .before .loop .inv .2),
     )
 

@@ -40,9 +40,9 @@ loop-less c = omega arith
 
 loop-again : tie.Need-loop-again Inv-loop μ-loop
 loop-again c = (
-      omega arith,
-      rw (add-one (c .before .before .before .loop .i)) (search-on _ _ _ _ (c .before .before .before .before .least .ensures) _ (c .before .before .before .loop .inv .1) (c .before .before .loop-test .taken) _ (c .before .u16-at .ensures) (c .if1 .left)),
-    )
+  omega arith,
+  rw (add-one (c .before .before .before .loop .i)) (search-on _ _ _ _ (c .before .before .before .before .least .ensures) _ (c .before .before .before .loop .inv .1) (c .before .before .loop-test .taken) _ (c .before .u16-at .ensures) (c .if1 .left)),
+)
 
 returns-2 : tie.Need-returns-2 Inv-loop μ-loop
 returns-2 c = search-miss _ _ _ _ (c .before .before .least .ensures) _ (c .before .loop .inv .1) (c .loop-test .left) (c .before .loop .inv .0)

@@ -35,9 +35,9 @@ loop-less c = omega arith
 
 loop-again : tie.Need-loop-again Inv-loop μ-loop
 loop-again c = (
-      omega arith,
-      rw (add-one (c .before .before .before .loop .j)) (count-goes-on (λ k. goodField (c .before .before .before .before .before .args .image .now) linkTag (c .before .before .before .before .before .args .accounts) k) _ (c .before .before .before .loop .inv .1) _ (c .before .good-field .ensures) (c .if1 .left)),
-    )
+  omega arith,
+  rw (add-one (c .before .before .before .loop .j)) (count-goes-on (λ k. goodField (c .before .before .before .before .before .args .image .now) linkTag (c .before .before .before .before .before .args .accounts) k) _ (c .before .before .before .loop .inv .1) _ (c .before .good-field .ensures) (c .if1 .left)),
+)
 
 returns-2 : tie.Need-returns-2 Inv-loop μ-loop
 unfolding linkCount

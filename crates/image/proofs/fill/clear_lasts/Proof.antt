@@ -51,8 +51,7 @@ loop-again : tie.Need-loop-again Inv-loop μ-loop
 loop-again c =
     let s = c .before .before in
     let a = s .before .before .before .args in
-    let i = c .before .loop .i in
-    (
+    let i = c .before .loop .i in (
       omega arith,
       rw (add-one i, c .before .loop .inv .1) (fill-zero (a .lasts .now) (a .n) i (room s) (c .loop-test .taken)),
       simp length-set (c .before .loop .inv .2),

@@ -78,8 +78,7 @@ loop-again : tie.Need-loop-again Inv-loop μ-loop
 loop-again c =
     let a = c .before .before .before .before .before .before .before .before .before .before .before .args in
     let i = c .before .before .before .before .before .loop .i in
-    let w = c .before .before .copy .ensures in
-    (
+    let w = c .before .before .copy .ensures in (
       omega arith,
       rw (add-one i) (row-laid (a .image .now) (a .rows .now) _ (a .first) _ (a .size) (a .n) i (c .before .before .before .before .before .before .least .ensures) (room (c .before .before .before .before .before .before .before)) (c .before .before .before .before .loop-test .taken) (rw (c .before .before .before .before .before .loop .inv .1) at w)),
       length-laid _ _ _ _ w ∙ c .before .before .before .before .before .loop .inv .2,

@@ -57,12 +57,11 @@ loop-again c =
     let s = c .before .before .before in
     let a = s .before .before .before .before .args in
     let i = c .before .before .loop .i in
-    let f = methodCapacity (a .image .now) in
-    (
+    let f = methodCapacity (a .image .now) in (
       omega arith,
       rw (add-one i, c .before .before .loop .inv .1)
-      (fill-one f (a .credits .now) (a .n) i _ (room s) (c .before .loop-test .taken) (ap (λ x. x ∷ []) (sym (c .capacity-of .ensures)))
-      (length-joined f 1 (λ k. refl) i ∙ one-mul i)),
+          (fill-one f (a .credits .now) (a .n) i _ (room s) (c .before .loop-test .taken) (ap (λ x. x ∷ []) (sym (c .capacity-of .ensures)))
+          (length-joined f 1 (λ k. refl) i ∙ one-mul i)),
       simp length-set (c .before .before .loop .inv .2),
     )
 

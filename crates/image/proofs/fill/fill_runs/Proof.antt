@@ -41,11 +41,16 @@ same-length-4 : tie.Need-same-length-4
 same-length-4 c = search needs
 
 returns : tie.Need-returns
-returns c =
-    (accounts-laid _ _ _ _ _ (c .before .before .before .before .before .before .before .before .before .before .before .before .before .before .before .before .before .data-place .ensures) (c .before .before .before .before .before .before .before .before .before .before .before .before .before .before .before .copy-rows .ensures),
-    (c .before .before .before .before .before .before .before .before .before .before .before .fill-credits .ensures,
-    (c .before .before .before .before .before .before .before .clear-lasts .ensures,
-    links-laid _ _ _ _ _ _ (c .before .before .before .before .data-place2 .ensures) (c .before .before .copy-rows2 .ensures))))
+returns c = (
+  accounts-laid _ _ _ _ _ (c .before .before .before .before .before .before .before .before .before .before .before .before .before .before .before .before .before .data-place .ensures) (c .before .before .before .before .before .before .before .before .before .before .before .before .before .before .before .copy-rows .ensures),
+  (
+    c .before .before .before .before .before .before .before .before .before .before .before .fill-credits .ensures,
+    (
+      c .before .before .before .before .before .before .before .clear-lasts .ensures,
+      links-laid _ _ _ _ _ _ (c .before .before .before .before .data-place2 .ensures) (c .before .before .copy-rows2 .ensures),
+    ),
+  ),
+)
 
 pub fill-runs-spec : {M : Type 1} → statement M
 fill-runs-spec =

@@ -1,51 +1,50 @@
+-- `put_field`: nothing without room, else tag, length and data side by side. Assumes nothing.
+use Prim.Native.Nat.{_+_, _≤_}
+use native.Mathlib.Omega.{arith}
+use mathlib.Core.Path.{_≡_, ap, _∙_}
+use lib.ListN.{length}
+use Rattle.octets.proofs.Parts.{length-part}
+use Rattle.octets.proofs.Runs.{put-refused, length-laid}
+use Rattle.octets.proofs.Tests.{has-room}
+use Rattle.image.specs.Layout.{fieldHead}
+use Rattle.image_writer.proofs.Laying.{length-sized, field-laid}
 use borrow.Author.Needs.{needs}
 use Rattle.image_writer.proofs.lay.put_field.Statement.{statement}
 use Rattle.image_writer.proofs.lay.put_field.Tie as tie
-use Rattle.image_writer.proofs.lay.put_field.Reads as reads
-use Rattle.image_writer.proofs.lay.put_field.Lts as lts
-use Rattle.octets.proofs.copy.Reads as copy-reads
-use Rattle.octets.proofs.has_room.Reads as has-room-reads
-use Rattle.octets.proofs.put_u16.Reads as put-u16-reads
 
--- src/lay.rt:28:42
+-- past the test there is room
+room : (c : tie.Else1) → c .before .before .before .before .args .at + (fieldHead + c .before .before .before .before .args .size) ≤ length (c .before .before .before .before .args .room .now)
+room c = has-room _ _ _ _ (c .before .has-room .ensures) (c .if1 .left)
+
 add-has-room : tie.Need-add-has-room
 add-has-room c = search needs
 
--- src/lay.rt:28:9
 has-room-requires : tie.Need-has-room-requires
 has-room-requires c κs = search needs
 
--- src/lay.rt:29:9
 returns : tie.Need-returns
-returns c = ?
+returns c = put-refused _ _ _ _ _ (c .before .has-room .ensures) (length-sized _ _ _ _) (c .if1 .taken)
 
--- src/lay.rt:31:5
 slice-write-room : tie.Need-slice-write-room
-slice-write-room c = ?
+slice-write-room c = let h = room c in omega arith
 
--- src/lay.rt:32:27
 add-put-u16 : tie.Need-add-put-u16
-add-put-u16 c = ?
+add-put-u16 c = let h = room (c .before) in omega arith
 
--- src/lay.rt:32:5
 put-u16-requires : tie.Need-put-u16-requires
 put-u16-requires c κs = search needs
 
--- src/lay.rt:33:51
 add-copy : tie.Need-add-copy
-add-copy c = ?
+add-copy c = let h = room (c .before .before .before .before .before) in omega arith
 
--- src/lay.rt:33:5
 copy-requires : tie.Need-copy-requires
 copy-requires c κs = search needs
 
--- src/lay.rt:25:1
 same-length : tie.Need-same-length
-same-length c = ?
+same-length c = length-laid (c .before .before .before .before .before .before .before .before .before .before .before .before .args .room .now) _ _ _ (field-laid (c .before .before .before .before .before .before .before .before .before .before .before .before .args .room .now) _ _ _ (c .before .before .before .before .before .before .before .before .before .before .before .before .args .tag) _ _ (length-part _ _ _) (room (c .before .before .before .before .before .before .before .before)) (c .before .before .before .before .before .before .put-u16 .ensures) (c .before .before .copy .ensures))
 
--- src/lay.rt:25:1
 returns-2 : tie.Need-returns-2
-returns-2 c = ?
+returns-2 c = field-laid _ _ _ _ _ _ _ (length-part _ _ _) (room (c .before .before .before .before .before .before .before .before)) (c .before .before .before .before .before .before .put-u16 .ensures) (c .before .before .copy .ensures)
 
 pub put-field-spec : {M : Type 1} → statement M
 put-field-spec =

@@ -1,79 +1,87 @@
+-- `put_fields`: nothing without room, else field by field. The loop's invariant: the first i fields are laid. Assumes nothing.
+use Prim.Native.Nat.{_+_, _-_, _*_, _≤_}
+use mathlib.Core.Path.{_≡_, refl, ap, _∙_}
+use native.Mathlib.Nat.{le-antisymm}
+use native.Mathlib.Numerals.{add-one}
+use native.Mathlib.Omega.{arith}
+use lib.ListN.{length}
+use Rattle.octets.specs.Runs.{joined, put}
+use Rattle.octets.proofs.Runs.{put-refused, lay-none, length-laid}
+use Rattle.octets.proofs.Tests.{has-room}
+use Rattle.image.specs.Layout.{fieldHead}
+use Rattle.image_writer.proofs.Laying.{rowField, length-row-field, length-fields, fields-grow, field-inside, small-product}
+use borrow.Author.Needs.{needs}
 use Rattle.image_writer.proofs.lay.put_fields.Statement.{statement}
 use Rattle.image_writer.proofs.lay.put_fields.Tie as tie
-use Rattle.image_writer.proofs.lay.put_fields.Reads as reads
-use Rattle.image_writer.proofs.lay.put_fields.Lts as lts
-use Rattle.image_writer.proofs.lay.put_field.Reads as put-field-reads
-use Rattle.octets.proofs.has_room.Reads as has-room-reads
 
 abbrev Inv-loop : tie.InvT-loop
-Inv-loop room₀ at tag rows size n wide step i₀ room i = ?
+Inv-loop room₀ at tag rows size n wide step i₀ room i = (i ≤ n) × (room ≡ put room₀ at (joined (rowField tag size rows) i)) × (length room ≡ length room₀)
 
 abbrev μ-loop : tie.MeasureT-loop
-μ-loop room₀ at tag rows size n wide step i₀ room i = ?
+μ-loop room₀ at tag rows size n wide step i₀ room i = n - i
 
--- src/lay.rt:41:16
+-- past the test there is room for all fields
+enough : (c : tie.Else1 Inv-loop μ-loop) → c .before .before .before .before .args .at + (fieldHead + c .before .before .before .before .args .size) * c .before .before .before .before .args .n ≤ length (c .before .before .before .before .args .room .now)
+enough c = has-room _ _ _ _ (c .before .has-room .ensures) (c .if1 .left)
+
 add-step : tie.Need-add-step Inv-loop μ-loop
-add-step c = ?
+add-step c = search needs
 
--- src/lay.rt:42:42
 mul-has-room : tie.Need-mul-has-room Inv-loop μ-loop
-mul-has-room c = ?
+mul-has-room c = let p = small-product (fieldHead + c .before .before .args .size) (c .before .before .args .n) (omega arith) (omega arith) in omega arith
 
--- src/lay.rt:42:9
 has-room-requires : tie.Need-has-room-requires Inv-loop μ-loop
-has-room-requires c κs = ?
+has-room-requires c κs = search needs
 
--- src/lay.rt:43:9
 returns : tie.Need-returns Inv-loop μ-loop
-returns c = ?
+returns c = put-refused _ _ _ _ _ (c .before .has-room .ensures) (length-fields _ _ _ _) (c .if1 .taken)
 
--- src/lay.rt:46:5
 loop-holds : tie.Need-loop-holds Inv-loop μ-loop
-loop-holds c = ?
+loop-holds c = let a = c .before .before .before .before .args in (omega arith, lay-none (rowField (a .tag) (a .size) (a .rows .now)) _ (length-row-field (a .tag) (a .size) (a .rows .now)) _ _, refl)
 
--- src/lay.rt:47:37
 cast-put-field : tie.Need-cast-put-field Inv-loop μ-loop
-cast-put-field c = ?
+cast-put-field c = search needs
 
--- src/lay.rt:47:30
 mul-put-field : tie.Need-mul-put-field Inv-loop μ-loop
-mul-put-field c = ?
+mul-put-field c = let p = small-product (fieldHead + c .before .before .before .before .before .before .before .args .size) (c .before .before .loop .i) (omega arith) (omega arith) in omega arith
 
--- src/lay.rt:47:25
 add-put-field : tie.Need-add-put-field Inv-loop μ-loop
-add-put-field c = ?
+add-put-field c =
+    let a = c .before .before .before .before .before .before .before .args in
+    let h = enough (c .before .before .before) in
+    let k = field-inside (fieldHead + a .size) (c .before .before .loop .i) (a .n) (c .before .loop-test .taken) in
+    omega arith
 
--- src/lay.rt:47:67
 cast-put-field-2 : tie.Need-cast-put-field-2 Inv-loop μ-loop
-cast-put-field-2 c = ?
+cast-put-field-2 c = search needs
 
--- src/lay.rt:47:60
 mul-put-field-2 : tie.Need-mul-put-field-2 Inv-loop μ-loop
-mul-put-field-2 c = ?
+mul-put-field-2 c = let p = small-product (c .before .before .before .before .before .before .before .args .size) (c .before .before .loop .i) (omega arith) (omega arith) in omega arith
 
--- src/lay.rt:47:9
 put-field-requires : tie.Need-put-field-requires Inv-loop μ-loop
-put-field-requires c κs = ?
+put-field-requires c κs = search needs
 
--- src/lay.rt:48:9
 add-i : tie.Need-add-i Inv-loop μ-loop
-add-i c = ?
+add-i c = omega arith
 
--- src/lay.rt:46:5
 loop-less : tie.Need-loop-less Inv-loop μ-loop
-loop-less c = ?
+loop-less c = omega arith
 
--- src/lay.rt:46:5
 loop-again : tie.Need-loop-again Inv-loop μ-loop
-loop-again c = ?
+loop-again c =
+    let a = c .before .before .before .before .before .before .before .before .before .before .args in
+    let i = c .before .before .before .before .before .loop .i in
+    let w = c .before .before .put-field .ensures in (
+      omega arith,
+      rw (add-one i) (fields-grow (a .room .now) _ (a .at) (a .tag) (a .size) (a .rows .now) (a .n) i (enough (c .before .before .before .before .before .before)) (c .before .before .before .before .loop-test .taken) (rw (c .before .before .before .before .before .loop .inv .1) at w)),
+      length-laid _ _ _ _ w ∙ c .before .before .before .before .before .loop .inv .2,
+    )
 
--- src/lay.rt:37:1
 same-length : tie.Need-same-length Inv-loop μ-loop
-same-length c = ?
+same-length c = c .before .loop .inv .2
 
--- src/lay.rt:37:1
 returns-2 : tie.Need-returns-2 Inv-loop μ-loop
-returns-2 c = ?
+returns-2 c = rw (← le-antisymm (c .loop-test .left) (c .before .loop .inv .0)) at (c .before .loop .inv .1)
 
 pub put-fields-spec : {M : Type 1} → statement M
 put-fields-spec =

@@ -1,47 +1,46 @@
+-- `put_head`: nothing without room, else tag, length, edition and constant field side by side. Assumes nothing.
+use Prim.Native.Nat.{_≤_}
+use native.Mathlib.Omega.{arith}
+use lib.ListN.{length}
+use Rattle.octets.proofs.Runs.{put-refused, length-laid}
+use Rattle.octets.proofs.Tests.{has-room-first}
+use Rattle.octets.specs.Numbers.{octetsOf}
+use Rattle.image.specs.Layout.{headTag, headOctets, headSize}
+use Rattle.image_writer.proofs.Laying.{head-size, head-laid, head-inside}
 use borrow.Author.Needs.{needs}
 use Rattle.image_writer.proofs.lay.put_head.Statement.{statement}
 use Rattle.image_writer.proofs.lay.put_head.Tie as tie
-use Rattle.image_writer.proofs.lay.put_head.Reads as reads
-use Rattle.image_writer.proofs.lay.put_head.Lts as lts
-use Rattle.octets.proofs.has_room.Reads as has-room-reads
-use Rattle.octets.proofs.put_u16.Reads as put-u16-reads
-use Rattle.octets.proofs.put_u32.Reads as put-u32-reads
 
--- src/lay.rt:15:9
+-- past the test there is room
+room : (c : tie.Else1) → headSize ≤ length (c .before .before .before .args .room .now)
+room c = has-room-first _ _ _ (c .before .has-room .ensures) (c .if1 .left)
+
 has-room-requires : tie.Need-has-room-requires
 has-room-requires c κs = search needs
 
--- src/lay.rt:16:9
 returns : tie.Need-returns
-returns c = ?
+returns c = put-refused _ _ _ _ _ (c .before .has-room .ensures) (head-size _) (c .if1 .taken)
 
--- src/lay.rt:18:5
 slice-write-room : tie.Need-slice-write-room
-slice-write-room c = ?
+slice-write-room c = let h = room c in omega arith
 
--- src/lay.rt:19:30
 cast-put-u16 : tie.Need-cast-put-u16
 cast-put-u16 c = search needs
 
--- src/lay.rt:19:5
 put-u16-requires : tie.Need-put-u16-requires
 put-u16-requires c κs = search needs
 
--- src/lay.rt:20:5
 slice-write-room-2 : tie.Need-slice-write-room-2
-slice-write-room-2 c = ?
+slice-write-room-2 c = head-inside (c .before .before .before .before .before .before .before .args .room .now) _ headTag (octetsOf 2 headOctets) (room (c .before .before .before .before)) (c .before .before .put-u16 .ensures)
 
--- src/lay.rt:21:5
 put-u32-requires : tie.Need-put-u32-requires
 put-u32-requires c κs = search needs
 
--- src/lay.rt:12:1
 same-length : tie.Need-same-length
-same-length c = ?
+same-length c = length-laid (c .before .before .before .before .before .before .before .before .before .before .before .args .room .now) _ _ _ (head-laid (c .before .before .before .before .before .before .before .before .before .before .before .args .room .now) _ _ _ (room (c .before .before .before .before .before .before .before .before)) (c .before .before .before .before .before .before .put-u16 .ensures) (c .before .before .put-u32 .ensures))
 
--- src/lay.rt:12:1
 returns-2 : tie.Need-returns-2
-returns-2 c = ?
+returns-2 c = head-laid _ _ _ _ (room (c .before .before .before .before .before .before .before .before)) (c .before .before .before .before .before .before .put-u16 .ensures) (c .before .before .put-u32 .ensures)
 
 pub put-head-spec : {M : Type 1} → statement M
 put-head-spec =

@@ -1,42 +1,45 @@
+-- `bad_account`: row by row. The loop's invariant: all rows before this one are well. Assumes nothing.
+use Prim.Native.Nat.{_-_, _≤_}
+use mathlib.Core.Path.{_≡_}
+use native.Mathlib.Numerals.{add-one}
+use native.Mathlib.Omega.{arith}
+use Rattle.tables.specs.Leading.{leading}
+use Rattle.tables.specs.Rows.{accountTable}
+use Rattle.tables.specs.Rules.{accountGood}
+use Rattle.tables.proofs.Leading.{leading-zero, count-stops, count-goes-on, count-full}
+use borrow.Author.Needs.{needs}
 use Rattle.image_writer.proofs.values.bad_account.Statement.{statement}
 use Rattle.image_writer.proofs.values.bad_account.Tie as tie
-use Rattle.image_writer.proofs.values.bad_account.Reads as reads
-use Rattle.image_writer.proofs.values.bad_account.Lts as lts
-use Rattle.image_writer.proofs.values.account_good.Reads as account-good-reads
 
 abbrev Inv-loop : tie.InvT-loop
-Inv-loop accounts n i₀ i = ?
+Inv-loop accounts n i₀ i = (i ≤ n) × (leading (accountGood (accountTable accounts)) i ≡ i)
 
 abbrev μ-loop : tie.MeasureT-loop
-μ-loop accounts n i₀ i = ?
+μ-loop accounts n i₀ i = n - i
 
--- src/values.rt:56:5
 loop-holds : tie.Need-loop-holds Inv-loop μ-loop
-loop-holds c = ?
+loop-holds c = (omega arith, leading-zero (accountGood (accountTable (c .before .args .accounts .now))))
 
--- src/values.rt:57:13
 account-good-requires : tie.Need-account-good-requires Inv-loop μ-loop
-account-good-requires c κs = ?
+account-good-requires c κs = search needs
 
--- src/values.rt:58:13
 returns : tie.Need-returns Inv-loop μ-loop
-returns c = ?
+returns c = count-stops (accountGood (accountTable (c .before .before .before .before .before .args .accounts .now))) _ (c .before .before .before .loop .inv .1) _ (c .before .account-good .ensures) _ (c .before .before .loop-test .taken) (c .if1 .taken)
 
--- src/values.rt:60:9
 add-i : tie.Need-add-i Inv-loop μ-loop
-add-i c = ?
+add-i c = omega arith
 
--- src/values.rt:56:5
 loop-less : tie.Need-loop-less Inv-loop μ-loop
-loop-less c = ?
+loop-less c = omega arith
 
--- src/values.rt:56:5
 loop-again : tie.Need-loop-again Inv-loop μ-loop
-loop-again c = ?
+loop-again c = (
+  omega arith,
+  rw (add-one (c .before .before .before .loop .i)) (count-goes-on (accountGood (accountTable (c .before .before .before .before .before .args .accounts .now))) _ (c .before .before .before .loop .inv .1) _ (c .before .account-good .ensures) (c .if1 .left)),
+)
 
--- src/values.rt:52:1
 returns-2 : tie.Need-returns-2 Inv-loop μ-loop
-returns-2 c = ?
+returns-2 c = count-full (accountGood (accountTable (c .before .before .before .args .accounts .now))) _ _ (c .before .loop .inv .1) (c .loop-test .left) (c .before .loop .inv .0)
 
 pub bad-account-spec : {M : Type 1} → statement M
 bad-account-spec =

@@ -1,42 +1,45 @@
+-- `bad_link`: row by row. The loop's invariant: all rows before this one are well. Assumes nothing.
+use Prim.Native.Nat.{_-_, _≤_}
+use mathlib.Core.Path.{_≡_}
+use native.Mathlib.Numerals.{add-one}
+use native.Mathlib.Omega.{arith}
+use Rattle.tables.specs.Leading.{leading}
+use Rattle.tables.specs.Rows.{accountTable, linkTable}
+use Rattle.tables.specs.Rules.{linkGood}
+use Rattle.tables.proofs.Leading.{leading-zero, count-stops, count-goes-on, count-full}
+use borrow.Author.Needs.{needs}
 use Rattle.image_writer.proofs.values.bad_link.Statement.{statement}
 use Rattle.image_writer.proofs.values.bad_link.Tie as tie
-use Rattle.image_writer.proofs.values.bad_link.Reads as reads
-use Rattle.image_writer.proofs.values.bad_link.Lts as lts
-use Rattle.image_writer.proofs.values.link_good.Reads as link-good-reads
 
 abbrev Inv-loop : tie.InvT-loop
-Inv-loop accounts n links m j₀ j = ?
+Inv-loop accounts n links m j₀ j = (j ≤ m) × (leading (linkGood (accountTable accounts) (linkTable links) n) j ≡ j)
 
 abbrev μ-loop : tie.MeasureT-loop
-μ-loop accounts n links m j₀ j = ?
+μ-loop accounts n links m j₀ j = m - j
 
--- src/values.rt:70:5
 loop-holds : tie.Need-loop-holds Inv-loop μ-loop
-loop-holds c = ?
+loop-holds c = (omega arith, leading-zero (linkGood (accountTable (c .before .before .args .accounts .now)) (linkTable (c .before .before .args .links .now)) (c .before .before .args .n)))
 
--- src/values.rt:71:13
 link-good-requires : tie.Need-link-good-requires Inv-loop μ-loop
-link-good-requires c κs = ?
+link-good-requires c κs = search needs
 
--- src/values.rt:72:13
 returns : tie.Need-returns Inv-loop μ-loop
-returns c = ?
+returns c = count-stops (linkGood (accountTable (c .before .before .before .before .before .before .args .accounts .now)) (linkTable (c .before .before .before .before .before .before .args .links .now)) (c .before .before .before .before .before .before .args .n)) _ (c .before .before .before .loop .inv .1) _ (c .before .link-good .ensures) _ (c .before .before .loop-test .taken) (c .if1 .taken)
 
--- src/values.rt:74:9
 add-j : tie.Need-add-j Inv-loop μ-loop
-add-j c = ?
+add-j c = omega arith
 
--- src/values.rt:70:5
 loop-less : tie.Need-loop-less Inv-loop μ-loop
-loop-less c = ?
+loop-less c = omega arith
 
--- src/values.rt:70:5
 loop-again : tie.Need-loop-again Inv-loop μ-loop
-loop-again c = ?
+loop-again c = (
+  omega arith,
+  rw (add-one (c .before .before .before .loop .j)) (count-goes-on (linkGood (accountTable (c .before .before .before .before .before .before .args .accounts .now)) (linkTable (c .before .before .before .before .before .before .args .links .now)) (c .before .before .before .before .before .before .args .n)) _ (c .before .before .before .loop .inv .1) _ (c .before .link-good .ensures) (c .if1 .left)),
+)
 
--- src/values.rt:66:1
 returns-2 : tie.Need-returns-2 Inv-loop μ-loop
-returns-2 c = ?
+returns-2 c = count-full (linkGood (accountTable (c .before .before .before .before .args .accounts .now)) (linkTable (c .before .before .before .before .args .links .now)) (c .before .before .before .before .args .n)) _ _ (c .before .loop .inv .1) (c .loop-test .left) (c .before .loop .inv .0)
 
 pub bad-link-spec : {M : Type 1} → statement M
 bad-link-spec =

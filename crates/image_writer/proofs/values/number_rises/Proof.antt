@@ -1,41 +1,35 @@
+-- `number_rises`: the first link, or two numbers compared. Assumes nothing.
+use mathlib.Core.Path.{sym}
+use native.Mathlib.Nat.{zero-add}
+use Rattle.tables.specs.Rows.{linkTable}
+use Rattle.tables.proofs.Rules.{rises-first, rises-later}
 use borrow.Author.Needs.{needs}
 use Rattle.image_writer.proofs.values.number_rises.Statement.{statement}
 use Rattle.image_writer.proofs.values.number_rises.Tie as tie
-use Rattle.image_writer.proofs.values.number_rises.Reads as reads
-use Rattle.image_writer.proofs.values.number_rises.Lts as lts
-use Rattle.octets.proofs.u16_at.Reads as u16-at-reads
 
--- src/values.rt:26:9
 returns : tie.Need-returns
-returns c = ?
+returns c = rises-first _ _ (c .if1 .taken)
 
--- src/values.rt:28:63
 sub-u16-at : tie.Need-sub-u16-at
 sub-u16-at c = search needs
 
--- src/values.rt:28:62
 cast-u16-at : tie.Need-cast-u16-at
 cast-u16-at c = search needs
 
--- src/values.rt:28:40
 mul-u16-at : tie.Need-mul-u16-at
 mul-u16-at c = search needs
 
--- src/values.rt:28:9
 u16-at-requires : tie.Need-u16-at-requires
 u16-at-requires c κs = search needs
 
--- src/values.rt:29:36
 mul-u16-at-2 : tie.Need-mul-u16-at-2
 mul-u16-at-2 c = search needs
 
--- src/values.rt:29:14
 u16-at-requires-2 : tie.Need-u16-at-requires-2
 u16-at-requires-2 c κs = search needs
 
--- src/values.rt:22:1
 returns-2 : tie.Need-returns-2
-returns-2 c = ?
+returns-2 c = rises-later (linkTable _) _ (c .before .before .if1 .left) _ _ _ _ (sym (zero-add _)) (c .before .u16-at .ensures) (sym (zero-add _)) (c .u16-at2 .ensures)
 
 pub number-rises-spec : {M : Type 1} → statement M
 number-rises-spec =

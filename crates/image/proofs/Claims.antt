@@ -1,0 +1,317 @@
+-- What holds of reading and loading for any octets and any runs. Assumes nothing.
+use Prim.Native.Nat.{ℕ, zero, suc, _+_, _-_, _*_, _≤_, _<_}
+use mathlib.Core.Bool.{Bool, true, false, not, _||_, false≢true}
+use mathlib.Core.List.{List, [], _∷_, List·Memᴰ, List·Memᴰ·head, List·Memᴰ·tail}
+use mathlib.Core.Path.{_≡_, refl, sym, ap, _∙_}
+use native.Mathlib.Omega.{arith}
+use lib.Dec.{leb, eqb}
+use lib.ListN.{length, getD, drop, replicate, length-replicate}
+use lib.Seq.{drop-at}
+use borrow.Author.Tests.{leb-true, leb-false, eqb-true, eqb-false}
+use Rattle.octets.specs.Choice.{if_then_else_}
+use Rattle.octets.specs.Numbers.{numberAt}
+use Rattle.octets.specs.Runs.{put}
+use Rattle.octets.proofs.Tests.{split}
+use Rattle.octets.proofs.Runs.{put-fits, put-no-room}
+use Rattle.tables.specs.Rows.{accountOctets, linkOctets}
+use Rattle.tables.proofs.Leading.{leading-fails}
+use Rattle.image.specs.Layout.{headTag, accountTag, linkTag, endTag, headSize, accountSize, linkSize, fieldHead, headOctets, fieldPlace, maxAccounts, maxLinks}
+use Rattle.image.specs.Read.{fieldCode, headGood, headCode, inOrder, dataOctets, isFull, valuesGood, tagAt, nextCode, goodField, accountCount, linkCount, readEnd, readImage}
+use Rattle.image.specs.Loading.{Runs, accountRows, linkRows, capacities, filled}
+use Rattle.image.specs.Claims.{ImageFigures, ReadCodes, LoadCodes, RefusedLoadKeeps, OffsetsInside, RowsBeyondKept, AcceptedEnds, walked, ReadFieldByField}
+use Rattle.image.proofs.Accepted.{Accepted, accepted, refused-zeros, head-passes, next-passes, good-tag, good-code, counted-account, counted-link, some-accounts, some-links, end-tag}
+use Rattle.image.proofs.Checks.{order-first, order-end, octets-account, octets-link, full-account, full-link}
+use Rattle.image.proofs.Fresh.{by-load, length-account-rows, length-link-rows, length-capacities}
+use Rattle.image.proofs.Reading.{few-accounts, few-links, by-end, by-reading}
+
+pub image-figures : ImageFigures
+unfolding fieldPlace
+image-figures = (refl, refl, refl, refl, refl, refl)
+
+-- ---- codes
+-- what holds of both answers holds of the choice
+by-choice : {A : Type 0} (P : A → Type 0) (b : Bool) (x y : A) → P x → P y → P (if b then x else y)
+by-choice P true x y f g = f
+by-choice P false x y f g = g
+
+-- of a field
+module _ (P : ℕ → Type 0) (p0 : P 0) (p20 : P 20) (p21 : P 21) (p22 : P 22) (p23 : P 23) (p24 : P 24) where
+  by-field : (s : List ℕ) (at : ℕ) (order : Bool) (size : ℕ) (full good : Bool) → P (fieldCode s at order size full good)
+  unfolding fieldCode
+  by-field s at order size full good =
+      by-choice P (not (leb (at + fieldHead) (length s))) _ _ p20
+      (by-choice P (not order) _ _ p21
+      (by-choice P (not (eqb (numberAt 2 s (at + 1)) size)) _ _ p22
+      (by-choice P (not (leb (at + fieldHead + size) (length s))) _ _ p20
+      (by-choice P full _ _ p24
+      (by-choice P (not good) _ _ p23 p0)))))
+
+  by-head : (s : List ℕ) → P (headCode s)
+  unfolding headCode
+  by-head s = by-field s 0 (eqb (getD s 0 0) headTag) headOctets false (headGood s)
+
+  by-next : (s : List ℕ) (n m : ℕ) → P (nextCode s n m)
+  unfolding nextCode
+  by-next s n m =
+      by-field s (fieldPlace n m) (inOrder (tagAt s n m) n m) (dataOctets (tagAt s n m)) (isFull (tagAt s n m) n m) (valuesGood s (tagAt s n m) n m)
+
+  -- of an image
+  pub by-code : P 25 → (s : List ℕ) → P (readImage s .code)
+  by-code p25 s =
+      by-reading s (λ q. P (q .code))
+      (λ _. by-head s)
+      (λ _. by-end s (λ q. P (q .code)) (accountCount s) (linkCount s (accountCount s))
+      (λ _. by-next s (accountCount s) (linkCount s (accountCount s)))
+      (λ _ _. p25)
+      (λ _ _. p0))
+
+-- a number that a list has, by computing
+abbrev has : ℕ → List ℕ → Bool
+has x [] = false
+has x (y ∷ l) = eqb x y || has x l
+
+listed : (x : ℕ) (l : List ℕ) → has x l ≡ true → List·Memᴰ x l
+listed x [] e = absurd (false≢true e)
+listed x (y ∷ l) e =
+    split (eqb x y)
+    (λ q. List·Memᴰ·head (eqb-true _ _ q))
+    (λ q. List·Memᴰ·tail (listed x l (rw q at e)))
+
+-- a list that has every code of reading
+code-listed : (l : List ℕ)
+    → has 0 l ≡ true → has 20 l ≡ true → has 21 l ≡ true → has 22 l ≡ true → has 23 l ≡ true → has 24 l ≡ true → has 25 l ≡ true
+    → (s : List ℕ) → List·Memᴰ (readImage s .code) l
+code-listed l p0 p20 p21 p22 p23 p24 p25 =
+    by-code (λ x. List·Memᴰ x l) (listed 0 l p0) (listed 20 l p20) (listed 21 l p21) (listed 22 l p22) (listed 23 l p23) (listed 24 l p24) (listed 25 l p25)
+
+pub read-codes : ReadCodes
+read-codes = code-listed (0 ∷ 20 ∷ 21 ∷ 22 ∷ 23 ∷ 24 ∷ 25 ∷ []) refl refl refl refl refl refl refl
+
+pub load-codes : LoadCodes
+load-codes s r =
+    let l : List ℕ = 0 ∷ 20 ∷ 21 ∷ 22 ∷ 23 ∷ 24 ∷ 25 ∷ 26 ∷ [] in
+    let c : List·Memᴰ (readImage s .code) l = code-listed l refl refl refl refl refl refl refl s in
+    by-load s r (λ w. List·Memᴰ (w .answer .code) l) (λ _. c) (λ _ _. c) (λ _ _. listed 26 l refl)
+
+-- reading never answers 26
+not-26 : (s : List ℕ) → readImage s .code ≡ 26 → ⊥
+not-26 =
+    by-code (λ x. x ≡ 26 → ⊥) (λ e. omega arith) (λ e. omega arith) (λ e. omega arith) (λ e. omega arith) (λ e. omega arith)
+    (λ e. omega arith) (λ e. omega arith)
+
+-- ---- loading refused
+pub refused-load-keeps : RefusedLoadKeeps
+refused-load-keeps s r =
+    by-load s r
+    (λ w. (w .answer .code ≡ 0 → ⊥) → (w .runs ≡ r) × (w .answer .constant ≡ 0) × (w .answer .accounts ≡ 0) × (w .answer .links ≡ 0))
+    (λ d _. let z = refused-zeros s d in (refl, z .0, z .1, z .2))
+    (λ z _ d. absurd (d z))
+    (λ _ _ _. (refl, refl, refl, refl))
+
+-- ---- accepted images
+pub accepted-ends : AcceptedEnds
+accepted-ends s z =
+    let a : Accepted s (readImage s) = accepted s z in
+    let n : ℕ = readImage s .accounts in
+    let m : ℕ = readImage s .links in (
+      end-tag s n m (a .accounts-are) (a .links-are) (a .end-code),
+      a .length-is,
+      some-accounts s n m (a .accounts-are) (a .links-are) (a .end-code),
+      some-links s n m (a .accounts-are) (a .links-are) (a .end-code),
+    )
+
+-- ---- offsets: the place of the next field
+place-head : fieldPlace 0 0 ≡ headSize
+unfolding fieldPlace
+place-head = refl
+
+place-account : (n : ℕ) → fieldPlace (suc n) 0 ≡ fieldPlace n 0 + accountSize
+unfolding fieldPlace
+place-account n = omega arith
+
+place-link : (n m : ℕ) → fieldPlace n (suc m) ≡ fieldPlace n m + linkSize
+unfolding fieldPlace
+place-link n m = omega arith
+
+module _ (s : List ℕ) (z : headCode s ≡ 0) where
+  -- the field behind the accounts that were counted starts inside the image, or at its end
+  accounts-inside : (n : ℕ) → n ≤ accountCount s → fieldPlace n 0 ≤ length s
+  accounts-inside zero h = let p = place-head in let w = head-passes s z .whole in omega arith
+  accounts-inside (suc n) h =
+      let g : goodField s accountTag n 0 ≡ true = counted-account s n (omega arith) in
+      let o : accountOctets ≡ dataOctets (tagAt s n 0) = octets-account (tagAt s n 0) (good-tag s accountTag n 0 g) in
+      let w : fieldPlace n 0 + fieldHead + dataOctets (tagAt s n 0) ≤ length s = next-passes s n 0 (good-code s accountTag n 0 g) .whole in
+      let p = place-account n in
+      omega arith
+
+  -- and so does the field behind the links
+  links-inside : (n m : ℕ) → n ≤ accountCount s → m ≤ linkCount s n → fieldPlace n m ≤ length s
+  links-inside n zero k h = accounts-inside n k
+  links-inside n (suc m) k h =
+      let g : goodField s linkTag n m ≡ true = counted-link s n m (omega arith) in
+      let t : tagAt s n m ≡ linkTag = good-tag s linkTag n m g in
+      let o : linkOctets ≡ dataOctets (tagAt s n m) = octets-link (tagAt s n m) (λ a. omega arith) t in
+      let w : fieldPlace n m + fieldHead + dataOctets (tagAt s n m) ≤ length s = next-passes s n m (good-code s linkTag n m g) .whole in
+      let p = place-link n m in
+      omega arith
+
+offset-inside : (s : List ℕ) → readImage s .offset ≤ length s
+offset-inside s =
+    by-reading s (λ q. q .offset ≤ length s)
+    (λ _. omega arith)
+    (λ z.
+    let n : ℕ = accountCount s in
+    let m : ℕ = linkCount s n in
+    by-end s (λ q. q .offset ≤ length s) n m
+    (λ _. links-inside s z n m (omega arith) (omega arith))
+    (λ _ l. omega arith)
+    (λ _ _. omega arith))
+
+pub offsets-inside : OffsetsInside
+offsets-inside s r =
+    by-load s r
+    (λ w. (w .answer .offset ≤ length s) × (w .answer .code ≡ 0 → w .answer .offset ≡ length s) × (w .answer .code ≡ 26 → w .answer .offset ≡ length s))
+    (λ d. (offset-inside s, λ z. absurd (d z), λ e. absurd (not-26 s e)))
+    (λ z _. (offset-inside s, λ _. accepted s z .offset-is, λ e. absurd (not-26 s e)))
+    (λ _ _. (omega arith, λ e. absurd (omega arith), λ _. refl))
+
+-- ---- rows beyond what was laid
+drop-put : (d xs : List ℕ) (k : ℕ) → length xs ≡ k → drop k (put d 0 xs) ≡ drop k d
+drop-put d xs k e =
+    let p : 0 + length xs ≡ k = omega arith in
+    split (leb (0 + length xs) (length d))
+    (λ h. ap (drop k) (put-fits d 0 xs (leb-true _ _ h)) ∙ drop-at xs (drop (0 + length xs) d) k e ∙ ap (λ (i : ℕ). drop i d) p)
+    (λ h. ap (drop k) (put-no-room d 0 xs (leb-false _ _ h)))
+
+-- filled runs are as they were behind the rows named
+abbrev Beyond : ℕ → ℕ → Runs → Runs → Type 0
+Beyond n m a r =
+    (drop (accountOctets * n) (a .accounts) ≡ drop (accountOctets * n) (r .accounts))
+    × (drop n (a .credits) ≡ drop n (r .credits))
+    × (drop n (a .lasts) ≡ drop n (r .lasts))
+    × (drop (linkOctets * m) (a .links) ≡ drop (linkOctets * m) (r .links))
+
+filled-beyond : (s : List ℕ) (n m : ℕ) (r : Runs) → Beyond n m (filled s n m r) r
+unfolding filled
+filled-beyond s n m r = (
+  drop-put (r .accounts) (accountRows s n) (accountOctets * n) (length-account-rows s n m),
+  drop-put (r .credits) (capacities s n) n (length-capacities s n m),
+  drop-put (r .lasts) (replicate n 0) n (length-replicate n 0),
+  drop-put (r .links) (linkRows s n m) (linkOctets * m) (length-link-rows s n m),
+)
+
+pub rows-beyond-kept : RowsBeyondKept
+rows-beyond-kept s r =
+    by-load s r (λ w. w .answer .code ≡ 0 → Beyond (w .answer .accounts) (w .answer .links) (w .runs) r)
+    (λ d z. absurd (d z))
+    (λ _ _ _. filled-beyond s (readImage s .accounts) (readImage s .links) r)
+    (λ _ _ z. absurd (omega arith))
+
+-- ---- field by field: one step of the walk
+module _ (k : ℕ) (s : List ℕ) (n m : ℕ) where
+  walk-account : goodField s accountTag n m ≡ true → walked (suc k) s n m ≡ walked k s (suc n) m
+  unfolding walked
+  walk-account e = simp e
+
+  walk-link : goodField s accountTag n m ≡ false → goodField s linkTag n m ≡ true → walked (suc k) s n m ≡ walked k s n (suc m)
+  unfolding walked
+  walk-link f e = simp (f, e)
+
+  walk-end : goodField s accountTag n m ≡ false → goodField s linkTag n m ≡ false → walked (suc k) s n m ≡ readEnd s n m
+  unfolding walked
+  walk-end f g = simp (f, g)
+
+-- a test that is never true
+not-good : (b : Bool) → (b ≡ true → ⊥) → b ≡ false
+not-good b h = split b (λ e. absurd (h e)) (λ e. e)
+
+-- an account is good only before the links, and while there is room for one; a link only behind an account, and while there is room
+module _ (s : List ℕ) (n m : ℕ) where
+  account-room : goodField s accountTag n m ≡ true → n < maxAccounts
+  account-room g =
+      leb-false _ _ (full-account (tagAt s n m) n m (good-tag s accountTag n m g) ∙ next-passes s n m (good-code s accountTag n m g) .few)
+
+  link-room : goodField s linkTag n m ≡ true → m < maxLinks
+  link-room g =
+      let t : tagAt s n m ≡ linkTag = good-tag s linkTag n m g in
+      leb-false _ _ (full-link (tagAt s n m) n m (λ a. omega arith) t ∙ next-passes s n m (good-code s linkTag n m g) .few)
+
+  link-behind : goodField s linkTag n m ≡ true → n ≡ 0 → ⊥
+  link-behind g z =
+      let t : tagAt s n m ≡ linkTag = good-tag s linkTag n m g in
+      let a : tagAt s n m ≡ accountTag = eqb-true _ _ (order-first (tagAt s n m) n m z ∙ next-passes s n m (good-code s linkTag n m g) .ordered) in
+      omega arith
+
+  account-before : goodField s accountTag n m ≡ true → (n ≡ 0 → ⊥) → m ≡ 0
+  account-before g d =
+      split (eqb m 0)
+      (λ q. eqb-true _ _ q)
+      (λ q.
+      let t : tagAt s n m ≡ accountTag = good-tag s accountTag n m g in
+      let e : tagAt s n m ≡ endTag =
+      eqb-true _ _ (order-end (tagAt s n m) n m d (λ l. omega arith) (eqb-false _ _ q) ∙ next-passes s n m (good-code s accountTag n m g) .ordered) in
+      absurd (omega arith))
+
+-- what was counted ends where the test fails
+accounts-end : (s : List ℕ) → goodField s accountTag (accountCount s) 0 ≡ true → ⊥
+unfolding accountCount
+accounts-end s g = false≢true (sym (leading-fails (λ i. goodField s accountTag i 0) maxAccounts (account-room s (accountCount s) 0 g)) ∙ g)
+
+links-end : (s : List ℕ) (n : ℕ) → goodField s linkTag n (linkCount s n) ≡ true → ⊥
+unfolding linkCount
+links-end s n g = false≢true (sym (leading-fails (λ j. goodField s linkTag n j) maxLinks (link-room s n (linkCount s n) g)) ∙ g)
+
+module _ (s : List ℕ) where
+  abbrev n : ℕ
+  n = accountCount s
+
+  abbrev m : ℕ
+  m = linkCount s n
+
+  -- no account stands among the links
+  no-account : (j : ℕ) → j ≤ m → goodField s accountTag n j ≡ true → ⊥
+  no-account zero h g = accounts-end s g
+  no-account (suc j) h g =
+      let b : (n ≡ 0 → ⊥) = link-behind s n j (counted-link s n j (omega arith)) in
+      let e : suc j ≡ 0 = account-before s n (suc j) g b in
+      omega arith
+
+  -- the walk passes the accounts, then the links, and stops
+  walk-accounts : (k d i : ℕ) → i + d ≡ n → walked (k + d) s i 0 ≡ walked k s n 0
+  walk-accounts k zero i e =
+      let p : k + 0 ≡ k = omega arith in
+      let q : i ≡ n = omega arith in
+      ap (λ (x : ℕ). walked x s i 0) p ∙ ap (λ (x : ℕ). walked k s x 0) q
+  walk-accounts k (suc d) i e =
+      let p : k + suc d ≡ suc (k + d) = omega arith in
+      ap (λ (x : ℕ). walked x s i 0) p
+      ∙ walk-account (k + d) s i 0 (counted-account s i (omega arith))
+      ∙ walk-accounts k d (suc i) (omega arith)
+
+  walk-links : (k d j : ℕ) → j + d ≡ m → walked (k + d) s n j ≡ walked k s n m
+  walk-links k zero j e =
+      let p : k + 0 ≡ k = omega arith in
+      let q : j ≡ m = omega arith in
+      ap (λ (x : ℕ). walked x s n j) p ∙ ap (walked k s n) q
+  walk-links k (suc d) j e =
+      let p : k + suc d ≡ suc (k + d) = omega arith in
+      ap (λ (x : ℕ). walked x s n j) p
+      ∙ walk-link (k + d) s n j (not-good _ (no-account j (omega arith))) (counted-link s n j (omega arith))
+      ∙ walk-links k d (suc j) (omega arith)
+
+  walk-whole : (k : ℕ) → maxAccounts + maxLinks < k → walked k s 0 0 ≡ readEnd s n m
+  walk-whole k h =
+      let a : n ≤ maxAccounts = few-accounts s in
+      let b : m ≤ maxLinks = few-links s n in
+      let r : ℕ = k - n - m - 1 in
+      let p : k ≡ suc r + m + n = omega arith in
+      ap (λ (x : ℕ). walked x s 0 0) p
+      ∙ walk-accounts (suc r + m) n 0 (omega arith)
+      ∙ walk-links (suc r) m 0 (omega arith)
+      ∙ walk-end r s n m (not-good _ (no-account m (omega arith))) (not-good _ (links-end s n))
+
+pub read-field-by-field : ReadFieldByField
+read-field-by-field s k h z =
+    by-reading s (λ q. walked k s 0 0 ≡ q)
+    (λ d. absurd (d z))
+    (λ _. walk-whole s k h)
