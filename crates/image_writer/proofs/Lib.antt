@@ -1,2 +1,3 @@
 pub mod Answers
+pub mod Imaged
 pub mod Laying

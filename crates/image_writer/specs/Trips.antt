@@ -1,0 +1,52 @@
+-- Demand 2: an image that is written reads back as the same tables, and one that is read is written again octet for octet. Both
+-- are stated over the layout, through the very definitions that the contracts of `load` and `write` cite; proved in
+-- proofs/Trips.antt.
+use Prim.Native.Nat.{ℕ, _*_, _^_, _≤_, _<_}
+use mathlib.Core.Bool.{true}
+use mathlib.Core.List.{List, [], _∷_}
+use mathlib.Core.Path.{_≡_}
+use lib.ListN.{length, getD, take, replicate}
+use Rattle.octets.specs.Runs.{joined, put}
+use Rattle.account.specs.Terms.{capacity}
+use Rattle.tables.specs.Rows.{Config, accountOctets, linkOctets, accountTable, accountIn}
+use Rattle.image.specs.Layout.{imageOf}
+use Rattle.image.specs.Loading.{Runs, runsOf, Loading, loadingOf, runsHold, loading}
+use Rattle.image_writer.specs.Writing.{configOf, told, writingOf, writing}
+
+-- ---- write, then read
+
+-- what was written: the image's octets in the room
+abbrev pub writtenImage : Config → List ℕ → List ℕ
+writtenImage g d = take (writing g d .answer .offset) (writing g d .room)
+
+-- loading what was written from these tables: their constant field, counts and rows, credits at capacity, last times 0
+unfoldable pub readBack : Config → Runs → Loading
+readBack g r =
+    loadingOf
+    (record { code = 0; offset = length (imageOf g); constant = g .constant; accounts = g .accountCount; links = g .linkCount })
+    (runsOf
+    (put (r .accounts) 0 (take (accountOctets * g .accountCount) (g .accounts)))
+    (put (r .credits) 0 (joined (λ i. capacity (accountIn (accountTable (g .accounts)) i) ∷ []) (g .accountCount)))
+    (put (r .lasts) 0 (replicate (g .accountCount) 0))
+    (put (r .links) 0 (take (linkOctets * g .linkCount) (g .links))))
+
+-- for any tables that the writer accepts, with whatever rows lie beyond the counts, any room and any runs that are long enough; the
+-- constant field is one of 32 bits
+abbrev pub WriteRead : Type 0
+WriteRead =
+    (g : Config) (d : List ℕ) (r : Runs) → g .constant < 2 ^ 32 → writing g d .answer .code ≡ 0
+    → runsHold (g .accountCount) (g .linkCount) (length (r .accounts)) (length (r .credits)) (length (r .lasts)) (length (r .links)) ≡ true
+    → loading (writtenImage g d) r ≡ readBack g r
+
+-- ---- read, then write
+
+-- the tables that loading left, with its answer
+abbrev pub loadedTables : List ℕ → Runs → Config
+loadedTables s r =
+    configOf (loading s r .answer .constant) (loading s r .runs .accounts) (loading s r .answer .accounts) (loading s r .runs .links) (loading s r .answer .links)
+
+-- for any octets that load, into any runs, and any room that is long enough: the same octets, and the room beyond them as it was
+abbrev pub ReadWrite : Type 0
+ReadWrite =
+    (s : List ℕ) (r : Runs) (d : List ℕ) → ((i : ℕ) → getD s i 0 < 256) → loading s r .answer .code ≡ 0 → length s ≤ length d
+    → writing (loadedTables s r) d ≡ writingOf (told 0 (length s)) (put d 0 s)
