@@ -37,7 +37,7 @@ field-laid d e f at tag size bytes l h p q =
     ∙ ap (λ (n : ℕ). put d at (tag ∷ octetsOf 2 n ++ bytes)) (sym l)
 
 -- the head: its data are the edition and the constant field
-length-head : (c : ℕ) → length (edition ∷ octetsOf 4 c) ≡ headOctets
+pub length-head : (c : ℕ) → length (edition ∷ octetsOf 4 c) ≡ headOctets
 length-head c = let o = length-octets 4 c in omega arith
 
 pub head-size : (c : ℕ) → length (fieldOf headTag (edition ∷ octetsOf 4 c)) ≡ headSize

@@ -1,3 +1,4 @@
 pub mod Answers
 pub mod Imaged
 pub mod Laying
+pub mod Trips

@@ -9,7 +9,8 @@ use lib.ListN.{length, getD}
 use borrow.Author.Tests.{lt-ltb, le-ltb, eq-eqb, ne-eqb}
 use Rattle.octets.specs.Numbers.{numberAt}
 use Rattle.octets.proofs.Numbers.{number-shift}
-use Rattle.octets.proofs.Parts.{getD-clamped}
+use Rattle.octets.specs.Runs.{octetsAt}
+use Rattle.octets.proofs.Parts.{getD-clamped, part-octet}
 use Rattle.account.specs.Terms.{Terms}
 use Rattle.tables.specs.Leading.{leading}
 use Rattle.tables.specs.Rows.{accountOctets, linkOctets, termsAt, linkAt, linksInUse, otherNumber, found}
@@ -86,3 +87,10 @@ module _ (links : List ℕ) (count x rows : ℕ) (e : rows ≡ linksInUse links 
       let m : i ≡ rows = omega arith in
       let f : leading (otherNumber links x) rows ≡ rows = rw m at s in
       rw (← e, f) (simp (le-ltb rows rows (omega arith)))
+
+-- ---- the same rows of octets have the same values
+pub terms-part : (s t : List ℕ) (a b : ℕ) → octetsAt accountOctets s a ≡ octetsAt accountOctets t b → termsAt s a ≡ termsAt t b
+terms-part s t a b e = terms-same s t a b (part-octet accountOctets s t a b e)
+
+pub link-part : (s t : List ℕ) (a b : ℕ) → octetsAt linkOctets s a ≡ octetsAt linkOctets t b → linkAt s a ≡ linkAt t b
+link-part s t a b e = link-same s t a b (part-octet linkOctets s t a b e)
