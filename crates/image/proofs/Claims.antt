@@ -15,18 +15,18 @@ use Rattle.octets.proofs.Tests.{split}
 use Rattle.octets.proofs.Runs.{put-fits, put-no-room}
 use Rattle.tables.specs.Rows.{accountOctets, linkOctets}
 use Rattle.tables.proofs.Leading.{leading-fails}
-use Rattle.image.specs.Layout.{headTag, accountTag, linkTag, endTag, headSize, accountSize, linkSize, fieldHead, headOctets, fieldPlace, maxAccounts, maxLinks}
-use Rattle.image.specs.Read.{fieldCode, headGood, headCode, inOrder, dataOctets, isFull, valuesGood, tagAt, nextCode, goodField, accountCount, linkCount, readEnd, readImage}
+use Rattle.image.specs.Layout.{headTag, accountTag, linkTag, endTag, headSize, accountSize, linkSize, fieldHead, headOctets, fieldPlace, imageLength, maxAccounts, maxLinks, longestImage}
+use Rattle.image.specs.Read.{fieldCode, headGood, headCode, inOrder, dataOctets, isFull, valuesGood, tagAt, nextCode, goodField, accountCount, linkCount, refused, readEnd, readImage}
 use Rattle.image.specs.Loading.{Runs, accountRows, linkRows, capacities, filled}
-use Rattle.image.specs.Claims.{ImageFigures, ReadCodes, LoadCodes, RefusedLoadKeeps, OffsetsInside, RowsBeyondKept, AcceptedEnds, walked, ReadFieldByField}
+use Rattle.image.specs.Claims.{ImageFigures, LoadRefuses, ReadCodes, LoadCodes, RefusedLoadKeeps, OffsetsInside, RowsBeyondKept, AcceptedEnds, walked, ReadFieldByField}
 use Rattle.image.proofs.Accepted.{Accepted, accepted, refused-zeros, head-passes, next-passes, good-tag, good-code, counted-account, counted-link, some-accounts, some-links, end-tag}
 use Rattle.image.proofs.Checks.{order-first, order-end, octets-account, octets-link, full-account, full-link}
-use Rattle.image.proofs.Fresh.{by-load, length-account-rows, length-link-rows, length-capacities}
-use Rattle.image.proofs.Reading.{few-accounts, few-links, by-end, by-reading}
+use Rattle.image.proofs.Fresh.{runsHeld, by-load, length-account-rows, length-link-rows, length-capacities}
+use Rattle.image.proofs.Reading.{few-accounts, few-links, few-read, by-end, by-reading}
 
 pub image-figures : ImageFigures
 unfolding fieldPlace
-image-figures = (refl, refl, refl, refl, refl, refl)
+image-figures = (refl, refl, refl, refl, refl, refl, refl, refl)
 
 -- ---- codes
 -- what holds of both answers holds of the choice
@@ -108,7 +108,24 @@ refused-load-keeps s r =
     (λ z _ d. absurd (d z))
     (λ _ _ _. (refl, refl, refl, refl))
 
+-- ---- what loading answers where it refuses
+pub load-refuses : LoadRefuses
+load-refuses s r = (
+      by-load s r (λ w. (readImage s .code ≡ 0 → ⊥) → w .answer ≡ readImage s)
+      (λ d f. refl)
+      (λ z t f. absurd (f z))
+      (λ z t f. absurd (f z)),
+      by-load s r (λ w. readImage s .code ≡ 0 → runsHeld s r ≡ false → w .answer ≡ refused 26 (length s))
+      (λ d z f. absurd (d z))
+      (λ z t y f. absurd (false≢true (sym f ∙ t)))
+      (λ z t y f. refl),
+    )
+
 -- ---- accepted images
+longest : (s : List ℕ) {n m : ℕ} → length s ≡ imageLength n m → n ≤ maxAccounts → m ≤ maxLinks → length s ≤ longestImage
+unfolding fieldPlace
+longest s e h k = omega arith
+
 pub accepted-ends : AcceptedEnds
 accepted-ends s z =
     let a : Accepted s (readImage s) = accepted s z in
@@ -118,6 +135,9 @@ accepted-ends s z =
       a .length-is,
       some-accounts s n m (a .accounts-are) (a .links-are) (a .end-code),
       some-links s n m (a .accounts-are) (a .links-are) (a .end-code),
+      few-read s .0,
+      few-read s .1,
+      longest s (a .length-is) (few-read s .0) (few-read s .1),
     )
 
 -- ---- offsets: the place of the next field

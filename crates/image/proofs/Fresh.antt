@@ -266,6 +266,7 @@ fresh-sound s r f =
     let k : n ≡ accountCount s = a .accounts-are in
     let g = link-good s r f in
     record {
+      long = rows s r f .long;
       some-accounts = (some-accounts s n m (a .accounts-are) (a .links-are) (a .end-code), few-read s .0);
       some-links = (some-links s n m (a .accounts-are) (a .links-are) (a .end-code), few-read s .1);
       accounts = λ i h.

@@ -1,6 +1,7 @@
 -- What holds of reading and loading for any octets and any runs whatsoever (document 01, "The configuration image"); proved in
 -- proofs/Claims.antt.
 use Prim.Native.Nat.{ℕ, zero, suc, _+_, _*_, _≤_, _<_}
+use mathlib.Core.Bool.{false}
 use mathlib.Core.Path.{_≡_}
 use mathlib.Core.List.{List, [], _∷_, List·Memᴰ}
 use lib.ListN.{length, take, drop}
@@ -8,12 +9,14 @@ use Rattle.octets.specs.Choice.{if_then_else_}
 use Rattle.tables.specs.Rows.{accountOctets, linkOctets}
 use Rattle.image.specs.Layout.{accountTag, linkTag, endTag, headSize, accountSize, linkSize, fieldHead, fieldPlace, imageLength, maxAccounts, maxLinks, longestImage, imagePrefix}
 use Rattle.image.specs.Read.{headCode, tagAt, nextCode, goodField, refused, readEnd, readImage}
-use Rattle.image.specs.Loading.{Runs, loading}
+use Rattle.image.specs.Loading.{Runs, runsHold, loading}
 use Rattle.image.specs.declared.Loaded.{Loaded}
 
--- the figures: sizes of the fields, the longest image, and how much of any image settles its answer
+-- the figures: sizes of the fields, the limits, the longest image, and how much of any image settles its answer
 abbrev pub ImageFigures : Type 0
-ImageFigures = (headSize ≡ 8) × (accountSize ≡ 9) × (linkSize ≡ 16) × (fieldHead ≡ 3) × (longestImage ≡ 4683) × (imagePrefix ≡ 4696)
+ImageFigures =
+    (headSize ≡ 8) × (accountSize ≡ 9) × (linkSize ≡ 16) × (fieldHead ≡ 3)
+    × (maxAccounts ≡ 64) × (maxLinks ≡ 256) × (longestImage ≡ 4683) × (imagePrefix ≡ 4696)
 
 -- demand 1: the codes that reading and loading can answer
 abbrev pub ReadCodes : Type 0
@@ -30,6 +33,15 @@ RefusedLoadKeeps =
     × (loading s r .answer .constant ≡ 0)
     × (loading s r .answer .accounts ≡ 0)
     × (loading s r .answer .links ≡ 0)
+
+-- what reading refuses, loading refuses alike; what reading accepts, it refuses as 26 where a run is too short
+abbrev pub LoadRefuses : Type 0
+LoadRefuses =
+    (s : List ℕ) (r : Runs)
+    → ((readImage s .code ≡ 0 → ⊥) → loading s r .answer ≡ readImage s)
+    × (readImage s .code ≡ 0
+    → runsHold (readImage s .accounts) (readImage s .links) (length (r .accounts)) (length (r .credits)) (length (r .lasts)) (length (r .links)) ≡ false
+    → loading s r .answer ≡ refused 26 (length s))
 
 -- the offset answered never lies past the image; success and 26 answer its length
 abbrev pub OffsetsInside : Type 0
@@ -48,7 +60,7 @@ RowsBeyondKept =
     × (drop (loading s r .answer .accounts) (loading s r .runs .lasts) ≡ drop (loading s r .answer .accounts) (r .lasts))
     × (drop (linkOctets * loading s r .answer .links) (loading s r .runs .links) ≡ drop (linkOctets * loading s r .answer .links) (r .links))
 
--- an accepted image ends with its end field, at least one account and one link before it
+-- an accepted image ends with its end field; before it stand accounts and links, at least one of each and no more than the limits
 abbrev pub AcceptedEnds : Type 0
 AcceptedEnds =
     (s : List ℕ) → readImage s .code ≡ 0
@@ -56,11 +68,14 @@ AcceptedEnds =
     × (length s ≡ imageLength (readImage s .accounts) (readImage s .links))
     × (1 ≤ readImage s .accounts)
     × (1 ≤ readImage s .links)
+    × (readImage s .accounts ≤ maxAccounts)
+    × (readImage s .links ≤ maxLinks)
+    × (length s ≤ longestImage)
 
--- the same answer field by field: a good account or link is passed, and the first field that is neither ends the reading. The
--- number k of fields looked at never decides
+-- the same answer field by field: a good account or link is passed, and the first field that is neither ends the reading. From as
+-- many fields on as an image can have, the number k that are looked at never decides; 255 is no code of reading
 unfoldable pub walked : ℕ → List ℕ → ℕ → ℕ → Loaded
-walked zero s n m = refused 0 0
+walked zero s n m = refused 255 0
 walked (suc k) s n m =
     if goodField s accountTag n m then walked k s (suc n) m
     else if goodField s linkTag n m then walked k s n (suc m)

@@ -43,9 +43,10 @@ pub record HoldsImage (s : List ℕ) (r : Runs) (n m : ℕ) : Type 0 where
 abbrev pub FreshHolds : Type 0
 FreshHolds = (s : List ℕ) (r : Runs) → Fresh s r → HoldsImage s r (readImage s .accounts) (readImage s .links)
 
--- tables of n accounts and m links in which code 10 fits no row: counts within the limits, values in order, credits full, last times
--- 0; and each number stands once
+-- tables of n accounts and m links in which code 10 fits no row: counts within the limits, runs that are long enough, values in
+-- order, credits full, last times 0; and each number stands once
 pub record SoundTables (r : Runs) (n m : ℕ) : Type 0 where
+  pub long : runsHold n m (length (r .accounts)) (length (r .credits)) (length (r .lasts)) (length (r .links)) ≡ true
   pub some-accounts : (1 ≤ n) × (n ≤ maxAccounts)
   pub some-links : (1 ≤ m) × (m ≤ maxLinks)
   pub accounts : (i : ℕ) → i < n → accountGood (accountTable (r .accounts)) i ≡ true

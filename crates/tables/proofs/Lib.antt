@@ -1,3 +1,4 @@
+pub mod Claims
 pub mod Leading
 pub mod Rows
 pub mod Rules
