@@ -111,15 +111,15 @@ refused-load-keeps s r =
 -- ---- what loading answers where it refuses
 pub load-refuses : LoadRefuses
 load-refuses s r = (
-      by-load s r (λ w. (readImage s .code ≡ 0 → ⊥) → w .answer ≡ readImage s)
+  by-load s r (λ w. (readImage s .code ≡ 0 → ⊥) → w .answer ≡ readImage s)
       (λ d f. refl)
       (λ z t f. absurd (f z))
       (λ z t f. absurd (f z)),
-      by-load s r (λ w. readImage s .code ≡ 0 → runsHeld s r ≡ false → w .answer ≡ refused 26 (length s))
+  by-load s r (λ w. readImage s .code ≡ 0 → runsHeld s r ≡ false → w .answer ≡ refused 26 (length s))
       (λ d z f. absurd (d z))
       (λ z t y f. absurd (false≢true (sym f ∙ t)))
       (λ z t y f. refl),
-    )
+)
 
 -- ---- accepted images
 longest : (s : List ℕ) {n m : ℕ} → length s ≡ imageLength n m → n ≤ maxAccounts → m ≤ maxLinks → length s ≤ longestImage

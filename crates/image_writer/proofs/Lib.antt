@@ -1,4 +1,5 @@
 pub mod Answers
+pub mod Claims
 pub mod Imaged
 pub mod Laying
 pub mod Trips

@@ -1,2 +1,3 @@
+pub mod Claims
 pub mod Trips
 pub mod Writing
