@@ -21,14 +21,14 @@ use Rattle.tables.specs.Rules.{linkSound, numberRises, linkGood}
 use Rattle.tables.proofs.Rows.{terms-same, link-same}
 use Rattle.tables.proofs.Rules.{account-good-same, link-good-same}
 use Rattle.image.specs.Read.{accountFields, linkFields, accountCount, linkCount, refused, readImage}
-use Rattle.image.specs.Loading.{Runs, Loading, loadingOf, accountRows, linkRows, capacities, filled, runsHold, loading}
+use Rattle.image.specs.Loading.{Runs, Loading, loadingOf, accountRows, linkRows, capacities, filled, runsHold, longEnough, loading}
 use Rattle.image.specs.Fresh.{Begins, Fresh, LoadFresh, LoadAccepts, HoldsImage, FreshHolds, FreshSound}
 use Rattle.image.proofs.Reading.{by-loading, few-read}
 use Rattle.image.proofs.Accepted.{Accepted, accepted, counted-account, counted-link, good-account, good-link, some-accounts, some-links}
 
 -- ---- runs that are long enough for what an image names
 abbrev pub runsHeld : List ℕ → Runs → Bool
-runsHeld s r = runsHold (readImage s .accounts) (readImage s .links) (length (r .accounts)) (length (r .credits)) (length (r .lasts)) (length (r .links))
+runsHeld s r = longEnough (readImage s .accounts) (readImage s .links) r
 
 -- by cases of what loading answers and leaves
 pub by-load : (s : List ℕ) (r : Runs) (P : Loading → Type 0)

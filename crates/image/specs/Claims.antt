@@ -9,7 +9,7 @@ use Rattle.octets.specs.Choice.{if_then_else_}
 use Rattle.tables.specs.Rows.{accountOctets, linkOctets}
 use Rattle.image.specs.Layout.{accountTag, linkTag, endTag, headSize, accountSize, linkSize, fieldHead, fieldPlace, imageLength, maxAccounts, maxLinks, longestImage, imagePrefix}
 use Rattle.image.specs.Read.{headCode, tagAt, nextCode, goodField, refused, readEnd, readImage}
-use Rattle.image.specs.Loading.{Runs, runsHold, loading}
+use Rattle.image.specs.Loading.{Runs, longEnough, loading}
 use Rattle.image.specs.declared.Loaded.{Loaded}
 
 -- the figures: sizes of the fields, the limits, the longest image, and how much of any image settles its answer
@@ -40,7 +40,7 @@ LoadRefuses =
     (s : List ℕ) (r : Runs)
     → ((readImage s .code ≡ 0 → ⊥) → loading s r .answer ≡ readImage s)
     × (readImage s .code ≡ 0
-    → runsHold (readImage s .accounts) (readImage s .links) (length (r .accounts)) (length (r .credits)) (length (r .lasts)) (length (r .links)) ≡ false
+    → longEnough (readImage s .accounts) (readImage s .links) r ≡ false
     → loading s r .answer ≡ refused 26 (length s))
 
 -- the offset answered never lies past the image; success and 26 answer its length

@@ -9,7 +9,7 @@ use Rattle.tables.specs.Rows.{accountTable, linkTable, accountIn, linkIn}
 use Rattle.tables.specs.Rules.{accountGood, linkSound}
 use Rattle.image.specs.Layout.{maxAccounts, maxLinks}
 use Rattle.image.specs.Read.{accountFields, linkFields, readImage}
-use Rattle.image.specs.Loading.{Runs, accountRows, linkRows, capacities, runsHold, loading}
+use Rattle.image.specs.Loading.{Runs, accountRows, linkRows, capacities, longEnough, loading}
 
 -- ys begins with xs, whatever follows
 abbrev pub Begins : List ℕ → List ℕ → Type 0
@@ -31,12 +31,12 @@ LoadFresh = (s : List ℕ) (r : Runs) → loading s r .answer .code ≡ 0 → Fr
 abbrev pub LoadAccepts : Type 0
 LoadAccepts =
     (s : List ℕ) (r : Runs) → readImage s .code ≡ 0
-    → runsHold (readImage s .accounts) (readImage s .links) (length (r .accounts)) (length (r .credits)) (length (r .lasts)) (length (r .links)) ≡ true
+    → longEnough (readImage s .accounts) (readImage s .links) r ≡ true
     → loading s r .answer ≡ readImage s
 
 -- fresh tables hold the image's rows, and are long enough for them
 pub record HoldsImage (s : List ℕ) (r : Runs) (n m : ℕ) : Type 0 where
-  pub long : runsHold n m (length (r .accounts)) (length (r .credits)) (length (r .lasts)) (length (r .links)) ≡ true
+  pub long : longEnough n m r ≡ true
   pub accounts : (i : ℕ) → i < n → accountIn (accountTable (r .accounts)) i ≡ accountIn (accountFields s) i
   pub links : (j : ℕ) → j < m → linkIn (linkTable (r .links)) j ≡ linkIn (linkFields s n) j
 
@@ -46,7 +46,7 @@ FreshHolds = (s : List ℕ) (r : Runs) → Fresh s r → HoldsImage s r (readIma
 -- tables of n accounts and m links in which code 10 fits no row: counts within the limits, runs that are long enough, values in
 -- order, credits full, last times 0; and each number stands once
 pub record SoundTables (r : Runs) (n m : ℕ) : Type 0 where
-  pub long : runsHold n m (length (r .accounts)) (length (r .credits)) (length (r .lasts)) (length (r .links)) ≡ true
+  pub long : longEnough n m r ≡ true
   pub some-accounts : (1 ≤ n) × (n ≤ maxAccounts)
   pub some-links : (1 ≤ m) × (m ≤ maxLinks)
   pub accounts : (i : ℕ) → i < n → accountGood (accountTable (r .accounts)) i ≡ true

@@ -54,6 +54,9 @@ unfoldable pub runsHold : ℕ → ℕ → ℕ → ℕ → ℕ → ℕ → Bool
 runsHold n m accounts credits lasts links =
     leb (accountOctets * n) accounts && leb n credits && leb n lasts && leb (linkOctets * m) links
 
+abbrev pub longEnough : ℕ → ℕ → Runs → Bool
+longEnough n m r = runsHold n m (length (r .accounts)) (length (r .credits)) (length (r .lasts)) (length (r .links))
+
 -- the answer, by the lengths of the runs: 26 only when all is well
 unfoldable pub loadAnswer : List ℕ → ℕ → ℕ → ℕ → ℕ → Loaded
 loadAnswer s accounts credits lasts links =

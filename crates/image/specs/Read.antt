@@ -65,12 +65,15 @@ valuesGood s tag n m =
     else if eqb tag linkTag then linkGood (accountFields s) (linkFields s n) n m
     else true
 
+-- its code, or 0, for a tag; and for the tag that stands there
+abbrev pub codeByTag : List ℕ → ℕ → ℕ → ℕ → ℕ
+codeByTag s n m tag = fieldCode s (fieldPlace n m) (inOrder tag n m) (dataOctets tag) (isFull tag n m) (valuesGood s tag n m)
+
 abbrev pub tagAt : List ℕ → ℕ → ℕ → ℕ
 tagAt s n m = getD s (fieldPlace n m) 0
 
 unfoldable pub nextCode : List ℕ → ℕ → ℕ → ℕ
-nextCode s n m =
-    fieldCode s (fieldPlace n m) (inOrder (tagAt s n m) n m) (dataOctets (tagAt s n m)) (isFull (tagAt s n m) n m) (valuesGood s (tagAt s n m) n m)
+nextCode s n m = codeByTag s n m (tagAt s n m)
 
 -- ---- how many accounts stand behind the head, and how many links behind them, each of the tag and well
 unfoldable pub goodField : List ℕ → ℕ → ℕ → ℕ → Bool

@@ -10,7 +10,7 @@ use Rattle.octets.specs.Runs.{joined, put}
 use Rattle.account.specs.Terms.{capacity}
 use Rattle.tables.specs.Rows.{Config, accountOctets, linkOctets, accountTable, accountIn}
 use Rattle.image.specs.Layout.{imageOf}
-use Rattle.image.specs.Loading.{Runs, runsOf, Loading, loadingOf, runsHold, loading}
+use Rattle.image.specs.Loading.{Runs, runsOf, Loading, loadingOf, longEnough, loading}
 use Rattle.image_writer.specs.Writing.{configOf, told, writingOf, writing}
 
 -- ---- write, then read
@@ -35,7 +35,7 @@ readBack g r =
 abbrev pub WriteRead : Type 0
 WriteRead =
     (g : Config) (d : List ℕ) (r : Runs) → g .constant < 2 ^ 32 → writing g d .answer .code ≡ 0
-    → runsHold (g .accountCount) (g .linkCount) (length (r .accounts)) (length (r .credits)) (length (r .lasts)) (length (r .links)) ≡ true
+    → longEnough (g .accountCount) (g .linkCount) r ≡ true
     → loading (writtenImage g d) r ≡ readBack g r
 
 -- ---- read, then write
