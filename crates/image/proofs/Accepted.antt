@@ -1,16 +1,16 @@
 -- What an accepted image is like, field by field, and that a refusal answers no counts. Assumes nothing.
-use Prim.Native.Nat.{ℕ, suc, _+_, _-_, _*_, _≤_, _<_}
-use mathlib.Core.Bool.{Bool, true, false, not, _&&_, _||_, false≢true}
+use Prim.Native.Nat.{ℕ, _+_, _≤_, _<_}
+use mathlib.Core.Bool.{Bool, true, false, not, _&&_, false≢true}
 use mathlib.Core.List.{List}
 use mathlib.Core.Path.{_≡_, refl, sym, ap, ap₂, _∙_}
 use native.Mathlib.Omega.{arith}
-use lib.Dec.{ltb, leb, eqb}
+use lib.Dec.{leb, eqb}
 use lib.ListN.{length, getD}
-use borrow.Author.Tests.{le-leb, lt-leb, leb-true, leb-false, eq-eqb, ne-eqb, eqb-true, eqb-false}
+use borrow.Author.Tests.{leb-true, leb-false, eq-eqb, ne-eqb, eqb-true, eqb-false}
 use Rattle.octets.specs.Numbers.{numberAt}
 use Rattle.octets.proofs.Tests.{split, both}
 use Rattle.tables.specs.Rules.{accountGood, linkGood}
-use Rattle.tables.proofs.Leading.{leading-before, leading-fails, leading-high}
+use Rattle.tables.proofs.Leading.{leading-before, leading-fails}
 use Rattle.image.specs.Layout.{headTag, accountTag, linkTag, endTag, fieldHead, headOctets, fieldPlace, imageLength, maxAccounts, maxLinks}
 use Rattle.image.specs.Read.{fieldCode, headGood, headCode, accountFields, linkFields, inOrder, dataOctets, isFull, valuesGood, tagAt, nextCode, goodField, accountCount, linkCount, refused, readImage}
 use Rattle.image.specs.Loading.{Runs, answerFor}

@@ -1,18 +1,16 @@
 -- Laws of the checks of one field, case by case as the code makes them. Assumes nothing.
-use Prim.Native.Nat.{ℕ, _+_, _-_, _*_, _/_, _%_, _^_, _≤_, _<_}
-use mathlib.Core.Bool.{Bool, true, false, not, _&&_, _||_, false≢true}
+use Prim.Native.Nat.{ℕ, _+_, _*_, _≤_, _<_}
+use mathlib.Core.Bool.{Bool, true, false, not}
 use mathlib.Core.List.{List}
-use mathlib.Core.Path.{_≡_, refl, sym, ap, ap₂, _∙_}
+use mathlib.Core.Path.{_≡_, ap, _∙_}
 use native.Mathlib.Omega.{arith}
-use lib.Dec.{ltb, leb, eqb}
+use lib.Dec.{leb, eqb}
 use lib.ListN.{length, getD}
-use borrow.Author.Tests.{lt-ltb, le-ltb, le-leb, lt-leb, leb-true, leb-false, eq-eqb, ne-eqb, eqb-true, not-true, not-false}
+use borrow.Author.Tests.{le-leb, lt-leb, eq-eqb, ne-eqb, not-true, not-false}
 use Rattle.octets.specs.Numbers.{numberAt}
-use Rattle.octets.proofs.Tests.{split, both}
-use Rattle.account.specs.Terms.{Terms, inLimits}
-use Rattle.tables.specs.Rows.{accountOctets, linkOctets, termsAt, linkAt, accountIn, linkIn}
-use Rattle.tables.specs.Rules.{linkSound, accountGood, numberRises, linkGood}
-use Rattle.tables.specs.declared.Link.{Link}
+use Rattle.octets.proofs.Tests.{split}
+use Rattle.tables.specs.Rows.{accountOctets, linkOctets}
+use Rattle.tables.specs.Rules.{accountGood, linkGood}
 use Rattle.image.specs.Layout.{headTag, headOctets, accountTag, linkTag, endTag, edition, fieldHead, accountSize, linkSize, fieldPlace, dataPlace, maxAccounts, maxLinks, constantGood}
 use Rattle.image.specs.Read.{fieldCode, headGood, headCode, accountFields, linkFields, inOrder, dataOctets, isFull, valuesGood, tagAt, nextCode, goodField}
 

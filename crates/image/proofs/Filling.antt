@@ -1,26 +1,25 @@
 -- Laws of filling a run row by row, and of what loading leaves. Assumes nothing.
-use Prim.Native.Nat.{ℕ, zero, suc, _+_, _*_, _^_, _≤_, _<_, min}
-use mathlib.Core.Bool.{Bool, true, false}
+use Prim.Native.Nat.{ℕ, suc, _+_, _*_, _^_, _≤_, _<_, min}
+use mathlib.Core.Bool.{true}
 use mathlib.Core.List.{List, [], _∷_, _++_}
-use mathlib.Core.Path.{_≡_, refl, sym, ap, ap₂, _∙_}
-use native.Mathlib.Nat.{add-assoc, zero-add, add-zero, mul-suc, mul-one, one-mul, mul-le-mul, mul-le-mul-left, le-trans}
+use mathlib.Core.Path.{_≡_, sym, ap, _∙_}
+use native.Mathlib.Nat.{add-assoc, zero-add, mul-le-mul}
 use native.Mathlib.Omega.{arith}
-use lib.Dec.{leb, eqb}
+use lib.Dec.{eqb}
 use lib.ListN.{length, getD, set, replicate, length-replicate, replicate-append-replicate}
 use borrow.Author.Tests.{eqb-true, eqb-false}
 use Rattle.octets.proofs.Tests.{split}
 use Rattle.octets.specs.Runs.{octetsAt, joined, put}
-use Rattle.octets.proofs.Parts.{length-part, part-same, getD-clamped, length-joined, joined-same}
+use Rattle.octets.proofs.Parts.{length-part, part-same, getD-clamped, joined-same}
 use Rattle.octets.proofs.Runs.{put-next, put-none, lay-next}
-use Rattle.account.specs.Terms.{inLimits, capacity}
-use Rattle.account.specs.Account.{accountOf, capacityOf, valid}
+use Rattle.account.specs.Account.{accountOf, capacityOf}
 use Rattle.account.specs.declared.Account.{Account}
 use Rattle.account.proofs.Methods.{valid-by}
 use Rattle.tables.specs.Rows.{accountOctets, linkOctets, termsAt, accountIn, rowOctets}
 use Rattle.tables.specs.Rules.{accountGood}
 use Rattle.image.specs.Layout.{fieldHead, dataPlace}
 use Rattle.image.specs.Read.{fieldRows, accountFields}
-use Rattle.image.specs.Loading.{Runs, runsOf, Loading, loadingOf, accountRows, linkRows, capacities, filled, answerFor, loading}
+use Rattle.image.specs.Loading.{Runs, runsOf, loadingOf, accountRows, linkRows, fullCredit, capacities, filled, answerFor, loading}
 use Rattle.image.specs.declared.Loaded.{Loaded}
 use Rattle.image.proofs.Accepted.{loaded-good, refused-none}
 use Rattle.image.proofs.Checks.{account-place}
@@ -88,14 +87,14 @@ pub capacity-read : (s : List ℕ) (i at : ℕ) (a : Account) (x : ℕ) → at �
 capacity-read s i at a x e f g = g ∙ ap capacityOf (f ∙ ap (λ (p : ℕ). accountOf (termsAt s p) 0 0) (e ∙ account-place i))
 
 full-capacity : (s : List ℕ) (i : ℕ) → accountGood (accountFields s) i ≡ true
-    → capacityOf (accountOf (accountIn (accountFields s) i) 0 0) ≡ capacity (accountIn (accountFields s) i)
+    → capacityOf (accountOf (accountIn (accountFields s) i) 0 0) ≡ fullCredit s i
 unfolding accountGood capacityOf
 full-capacity s i e = simp (valid-by (accountOf (accountIn (accountFields s) i) 0 0) e (omega arith))
 
 pub capacities-good : (s : List ℕ) (n : ℕ) → ((i : ℕ) → i < n → accountGood (accountFields s) i ≡ true) → joined (methodCapacity s) n ≡ capacities s n
 unfolding capacities
 capacities-good s n h =
-    joined-same (methodCapacity s) (λ i. capacity (accountIn (accountFields s) i) ∷ []) n
+    joined-same (methodCapacity s) (λ i. fullCredit s i ∷ []) n
     (λ i l. ap (λ (x : ℕ). x ∷ []) (full-capacity s i (h i l)))
 
 -- ---- what loading leaves: nothing where it refuses, else the rows that the image names

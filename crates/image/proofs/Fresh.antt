@@ -21,7 +21,7 @@ use Rattle.tables.specs.Rules.{linkSound, numberRises, linkGood}
 use Rattle.tables.proofs.Rows.{terms-same, link-same}
 use Rattle.tables.proofs.Rules.{account-good-same, link-good-same}
 use Rattle.image.specs.Read.{accountFields, linkFields, accountCount, linkCount, refused, readImage}
-use Rattle.image.specs.Loading.{Runs, Loading, loadingOf, accountRows, linkRows, capacities, filled, runsHold, longEnough, loading}
+use Rattle.image.specs.Loading.{Runs, Loading, loadingOf, accountRows, linkRows, fullCredit, capacities, filled, runsHold, longEnough, loading}
 use Rattle.image.specs.Fresh.{Begins, Fresh, LoadFresh, LoadAccepts, HoldsImage, FreshHolds, FreshSound}
 use Rattle.image.proofs.Reading.{by-loading, few-read}
 use Rattle.image.proofs.Accepted.{Accepted, accepted, counted-account, counted-link, good-account, good-link, some-accounts, some-links}
@@ -133,7 +133,7 @@ module _ (s : List ℕ) (n m : ℕ) where
 
   pub length-capacities : length (capacities s n) ≡ n
   unfolding capacities
-  length-capacities = length-joined (λ i. capacity (accountIn (accountFields s) i) ∷ []) 1 (λ i. refl) n ∙ one-mul n
+  length-capacities = length-joined (λ i. fullCredit s i ∷ []) 1 (λ i. refl) n ∙ one-mul n
 
 pub filled-fresh : (s : List ℕ) (r : Runs) → readImage s .code ≡ 0 → runsHeld s r ≡ true → Fresh s (filled s (readImage s .accounts) (readImage s .links) r)
 unfolding filled

@@ -1,10 +1,10 @@
 -- Octets that are laid out as an image, with good values, read as accepted: the way back from Accepted. Assumes nothing.
-use Prim.Native.Nat.{ℕ, _+_, _*_, _≤_, _<_}
+use Prim.Native.Nat.{ℕ, _+_, _≤_, _<_}
 use mathlib.Core.Bool.{Bool, true, false, not, _&&_, false≢true}
 use mathlib.Core.List.{List}
 use mathlib.Core.Path.{_≡_, refl, sym, ap, ap₂, _∙_}
 use native.Mathlib.Omega.{arith}
-use lib.Dec.{leb, eqb}
+use lib.Dec.{eqb}
 use lib.ListN.{length, getD}
 use borrow.Author.Tests.{lt-leb, eq-eqb, ne-eqb, eqb-true}
 use Rattle.octets.specs.Numbers.{numberAt}
@@ -12,8 +12,7 @@ use Rattle.octets.proofs.Tests.{split, both}
 use Rattle.tables.specs.Rules.{accountGood, linkGood}
 use Rattle.tables.proofs.Leading.{leading-is}
 use Rattle.image.specs.Layout.{headTag, accountTag, linkTag, endTag, edition, fieldHead, headOctets, headSize, accountSize, linkSize, fieldPlace, imageLength, maxAccounts, maxLinks, constantGood}
-use Rattle.image.specs.Read.{fieldCode, headGood, headCode, accountFields, linkFields, inOrder, dataOctets, isFull, valuesGood, tagAt, nextCode, goodField, accountCount, linkCount, readEnd, readImage}
-use Rattle.image.specs.declared.Loaded.{Loaded}
+use Rattle.image.specs.Read.{headGood, headCode, accountFields, linkFields, inOrder, dataOctets, isFull, valuesGood, tagAt, nextCode, goodField, accountCount, linkCount, readImage}
 use Rattle.image.proofs.Checks.{code-good, order-first, order-link, order-account, order-end, octets-account, octets-link, octets-end, full-account, full-link, full-end, values-account, values-link, values-end}
 use Rattle.image.proofs.Accepted.{good-by}
 use Rattle.image.proofs.Reading.{end-accepted, head-passed}

@@ -7,8 +7,8 @@ use mathlib.Core.List.{List, [], _∷_, List·Memᴰ}
 use lib.ListN.{length, take, drop}
 use Rattle.octets.specs.Choice.{if_then_else_}
 use Rattle.tables.specs.Rows.{accountOctets, linkOctets}
-use Rattle.image.specs.Layout.{accountTag, linkTag, endTag, headSize, accountSize, linkSize, fieldHead, fieldPlace, imageLength, maxAccounts, maxLinks, longestImage, imagePrefix}
-use Rattle.image.specs.Read.{headCode, tagAt, nextCode, goodField, refused, readEnd, readImage}
+use Rattle.image.specs.Layout.{accountTag, linkTag, endTag, headSize, accountSize, linkSize, fieldHead, imageLength, maxAccounts, maxLinks, longestImage, imagePrefix}
+use Rattle.image.specs.Read.{headCode, tagAt, goodField, refused, readEnd, readImage}
 use Rattle.image.specs.Loading.{Runs, longEnough, loading}
 use Rattle.image.specs.declared.Loaded.{Loaded}
 

@@ -37,8 +37,11 @@ accountRows s n = joined (rowOctets accountOctets (accountFields s)) n
 unfoldable pub linkRows : List ℕ → ℕ → ℕ → List ℕ
 linkRows s n m = joined (rowOctets linkOctets (linkFields s n)) m
 
+abbrev pub fullCredit : List ℕ → ℕ → ℕ
+fullCredit s i = capacity (accountIn (accountFields s) i)
+
 unfoldable pub capacities : List ℕ → ℕ → List ℕ
-capacities s n = joined (λ i. capacity (accountIn (accountFields s) i) ∷ []) n
+capacities s n = joined (λ i. fullCredit s i ∷ []) n
 
 -- the runs begin with that; rows beyond keep what they had
 unfoldable pub filled : List ℕ → ℕ → ℕ → Runs → Runs

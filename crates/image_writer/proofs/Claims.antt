@@ -1,20 +1,18 @@
 -- What holds of writing for any tables, counts and room. Assumes nothing.
-use Prim.Native.Nat.{ℕ, _+_, _≤_}
+use Prim.Native.Nat.{ℕ, _≤_}
 use mathlib.Core.List.{List, [], _∷_, _++_, List·Memᴰ, List·Memᴰ·head, List·Memᴰ·tail}
 use mathlib.Core.Path.{_≡_, refl, sym, ap, _∙_}
 use native.Mathlib.Nat.{zero-add}
 use native.Mathlib.Omega.{arith}
 use lib.Dec.{eqb}
 use lib.ListN.{length, drop}
-use borrow.Author.Tests.{eq-eqb, ne-eqb}
 use Rattle.octets.specs.Choice.{if_then_else_}
 use Rattle.octets.specs.Runs.{put}
 use Rattle.octets.proofs.Runs.{put-fits}
 use Rattle.tables.specs.Rows.{Config}
 use Rattle.image.specs.Layout.{imageLength, imageOf}
-use Rattle.image_writer.specs.Writing.{told, valueAnswer, writeAnswer, Writing, writingOf, writing}
+use Rattle.image_writer.specs.Writing.{told, Writing, writingOf, writing}
 use Rattle.image_writer.specs.Claims.{WriteCodes, RefusedWriteKeeps, WriteOffsets, WritesImage, ImageLength}
-use Rattle.image_writer.specs.declared.Written.{Written}
 use Rattle.image_writer.proofs.Answers.{by-values, by-writing}
 use Rattle.image_writer.proofs.Laying.{length-image}
 

@@ -10,9 +10,9 @@ use Rattle.octets.specs.Numbers.{numberAt, octetsOf}
 use Rattle.octets.specs.Runs.{octetsAt, joined}
 use Rattle.octets.proofs.Numbers.{number-shift, number-octets, length-octets}
 use Rattle.octets.proofs.Parts.{length-part, getD-part, part-is, part-front, part-behind, part-join, part-whole, part-joined, joined-at, joined-same, octets-number}
-use Rattle.tables.specs.Rows.{Config, accountOctets, linkOctets, accountTable, linkTable, rowOctets}
-use Rattle.image.specs.Layout.{headTag, accountTag, linkTag, endTag, edition, fieldOf, imageOf, fieldHead, headOctets, headSize, accountSize, linkSize, fieldPlace, dataPlace, imageLength}
-use Rattle.image_writer.proofs.Laying.{length-field, length-fields, head-size, rowField, length-row-field, length-image}
+use Rattle.tables.specs.Rows.{Config, accountOctets, linkOctets}
+use Rattle.image.specs.Layout.{headTag, accountTag, linkTag, endTag, edition, fieldOf, imageOf, fieldHead, headSize, accountSize, linkSize, fieldPlace, imageLength}
+use Rattle.image_writer.proofs.Laying.{length-field, length-fields, head-size, rowField, length-row-field}
 
 -- ---- where links stand
 place-link : (n j : ℕ) → fieldPlace n j ≡ fieldPlace n 0 + linkSize * j

@@ -1,8 +1,8 @@
 -- Laws of laying an image's octets: a field, fields one after the other, the whole image. Assumes nothing.
 use Prim.Native.Nat.{ℕ, suc, _+_, _*_, _^_, _≤_, _<_}
 use mathlib.Core.List.{List, [], _∷_, _++_}
-use mathlib.Core.Path.{_≡_, refl, sym, ap, ap₂, _∙_}
-use native.Mathlib.Nat.{zero-add, add-assoc, mul-zero, mul-suc, mul-le-mul, mul-le-mul-left}
+use mathlib.Core.Path.{_≡_, refl, sym, ap, _∙_}
+use native.Mathlib.Nat.{zero-add, mul-suc, mul-le-mul, mul-le-mul-left}
 use native.Mathlib.Omega.{arith}
 use mathlib.Core.Bool.{Bool, false, not}
 use lib.Dec.{leb}
@@ -13,7 +13,7 @@ use Rattle.octets.specs.Runs.{octetsAt, joined, put}
 use Rattle.octets.proofs.Numbers.{length-octets}
 use Rattle.octets.proofs.Parts.{length-part, part-none, length-joined}
 use Rattle.octets.proofs.Runs.{put-one, put-after, lay-next, length-laid}
-use Rattle.tables.specs.Rows.{Config, accountOctets, linkOctets, tableOf, accountTable, linkTable, rowOctets}
+use Rattle.tables.specs.Rows.{Config, accountOctets, linkOctets, tableOf, rowOctets}
 use Rattle.image.specs.Layout.{headTag, accountTag, linkTag, endTag, edition, fieldOf, imageOf, fieldHead, headOctets, headSize, accountSize, linkSize, fieldPlace, imageLength}
 
 -- ---- one field

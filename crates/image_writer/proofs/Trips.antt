@@ -1,12 +1,12 @@
 -- The two round trips. Assumes nothing.
 use Prim.Native.Nat.{ℕ, suc, _+_, _-_, _*_, _^_, _≤_, _<_}
-use mathlib.Core.Bool.{Bool, true, false, not, _&&_, false≢true}
+use mathlib.Core.Bool.{true, false≢true}
 use mathlib.Core.List.{List, [], _∷_, _++_}
 use mathlib.Core.Path.{_≡_, refl, sym, ap, ap₂, _∙_}
-use native.Mathlib.Nat.{zero-add, add-assoc}
+use native.Mathlib.Nat.{zero-add}
 use native.Mathlib.Omega.{arith}
-use lib.Dec.{leb, eqb}
-use lib.ListN.{length, getD, take, replicate}
+use lib.Dec.{eqb}
+use lib.ListN.{length, getD, take}
 use borrow.Author.Tests.{le-leb, eqb-true}
 use Rattle.octets.specs.Numbers.{numberAt, octetsOf}
 use Rattle.octets.specs.Runs.{octetsAt, joined, put}
@@ -14,14 +14,14 @@ use Rattle.octets.proofs.Numbers.{number-shift, number-octets}
 use Rattle.octets.proofs.Parts.{length-part, getD-part, part-is, part-none, part-join, part-joined, part-take, joined-same, octets-number}
 use Rattle.octets.proofs.Tests.{split}
 use Rattle.account.specs.Terms.{Terms, capacity}
-use Rattle.tables.specs.Rows.{Rows, Config, accountOctets, linkOctets, accountTable, linkTable, accountIn, linkIn, rowOctets}
+use Rattle.tables.specs.Rows.{Config, accountOctets, linkOctets, accountTable, linkTable, accountIn, linkIn, rowOctets}
 use Rattle.tables.specs.Rules.{accountGood, linkGood}
 use Rattle.tables.proofs.Leading.{leading-before, leading-is}
 use Rattle.tables.proofs.Rows.{terms-part, link-part}
 use Rattle.tables.proofs.Rules.{account-good-same, link-good-same}
 use Rattle.image.specs.Layout.{headTag, accountTag, linkTag, endTag, edition, fieldHead, headOctets, headSize, accountSize, linkSize, fieldPlace, dataPlace, imageLength, maxAccounts, maxLinks, constantGood, fieldOf, imageOf}
 use Rattle.image.specs.Read.{headCode, accountFields, linkFields, tagAt, nextCode, goodField, readImage}
-use Rattle.image.specs.Loading.{Runs, runsOf, Loading, loadingOf, accountRows, linkRows, capacities, filled, runsHold, loading}
+use Rattle.image.specs.Loading.{Runs, loadingOf, accountRows, linkRows, capacities, filled, runsHold, loading}
 use Rattle.image.specs.Fresh.{Fresh, HoldsImage}
 use Rattle.image.specs.declared.Loaded.{Loaded}
 use Rattle.image.proofs.Checks.{account-place, link-place, octets-account, octets-link, octets-end}
@@ -29,7 +29,7 @@ use Rattle.image.proofs.Reading.{few-read}
 use Rattle.image.proofs.Accepted.{Accepted, accepted, head-passes, next-passes, good-tag, good-code, good-account, good-link, counted-account, counted-link, some-accounts, some-links, end-tag}
 use Rattle.image.proofs.Passing.{head-good-by, head-good-constant, head-good-edition, head-code-by, account-passes, link-passes, end-passes, reads-as}
 use Rattle.image.proofs.Fresh.{by-load, begins-put, rows-at, load-fresh, fresh-holds, held-long}
-use Rattle.image_writer.specs.Writing.{configOf, countsGood, countGood, badAccount, badLink, told, valueAnswer, writeAnswer, writingOf, writing}
+use Rattle.image_writer.specs.Writing.{configOf, countsGood, countGood, badAccount, badLink, told, writeAnswer, writingOf, writing}
 use Rattle.image_writer.specs.Trips.{writtenImage, readBack, WriteRead, loadedTables, ReadWrite}
 use Rattle.image_writer.specs.declared.Written.{Written}
 use Rattle.image_writer.proofs.Answers.{accounts-counted, links-counted, by-values, by-writing, all-good, room-enough, writing-done}

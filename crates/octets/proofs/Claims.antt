@@ -1,11 +1,10 @@
 -- Numbers written and read, both ways, at every width. Assumes nothing.
 use Prim.Native.Nat.{ℕ, _+_, _≤_}
-use mathlib.Core.Path.{_≡_, sym, ap, _∙_}
-use mathlib.Core.List.{List}
+use mathlib.Core.Path.{sym, ap, _∙_}
 use native.Mathlib.Nat.{zero-add}
 use native.Mathlib.Omega.{arith}
 use lib.ListN.{length, getD}
-use Rattle.octets.specs.Numbers.{numberAt, octetsOf}
+use Rattle.octets.specs.Numbers.{octetsOf}
 use Rattle.octets.specs.Runs.{put}
 use Rattle.octets.specs.Claims.{ReadsBack, WritesBack}
 use Rattle.octets.proofs.Numbers.{number-shift, number-octets, length-octets}

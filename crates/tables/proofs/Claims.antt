@@ -7,7 +7,6 @@ use native.Mathlib.Omega.{arith}
 use lib.Dec.{ltb, eqb}
 use borrow.Author.Tests.{ltb-true, ltb-false, eq-eqb, eqb-true, not-false}
 use Rattle.octets.proofs.Tests.{split}
-use Rattle.tables.specs.Leading.{leading}
 use Rattle.tables.specs.Rows.{linkTable, linkIn, linksInUse, otherNumber, rowOf, found}
 use Rattle.tables.specs.Rules.{portsSound, sizesSound, linkSound}
 use Rattle.tables.specs.Claims.{FindsFirst, FindsNone, LinkRefused, LinkAccepted}

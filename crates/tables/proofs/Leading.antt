@@ -5,7 +5,6 @@ use mathlib.Core.Path.{_≡_, refl, sym, ap, ap₂, _∙_}
 use native.Mathlib.Omega.{arith}
 use lib.Dec.{leb, eqb}
 use borrow.Author.Tests.{leb-true, leb-false, eq-eqb, ne-eqb, eqb-true, not-true, not-false}
-use Rattle.octets.specs.Choice.{if_then_else_}
 use Rattle.octets.proofs.Tests.{split, both}
 use Rattle.tables.specs.Leading.{leading}
 

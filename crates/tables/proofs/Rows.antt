@@ -1,9 +1,9 @@
 -- Laws of rows: reading past the end, the same octets at two places, and the search for a number. Assumes nothing.
 use Prim.Native.Nat.{ℕ, suc, _+_, _*_, _/_, _≤_, _<_, min}
-use mathlib.Core.Bool.{Bool, true, false, not}
+use mathlib.Core.Bool.{not}
 use mathlib.Core.List.{List}
-use mathlib.Core.Path.{_≡_, refl, sym, ap, ap₂, _∙_}
-use native.Mathlib.Nat.{zero-add, add-assoc, add-zero, min-le-right, div-mul-le-self, mul-comm, le-trans, mul-le-mul-left}
+use mathlib.Core.Path.{_≡_, sym, ap, _∙_}
+use native.Mathlib.Nat.{zero-add, add-assoc, min-le-right, div-mul-le-self, mul-comm}
 use native.Mathlib.Omega.{arith}
 use lib.ListN.{length, getD}
 use borrow.Author.Tests.{lt-ltb, le-ltb, eq-eqb, ne-eqb}
@@ -14,10 +14,9 @@ use Rattle.octets.proofs.Parts.{getD-clamped, part-octet}
 use Rattle.account.specs.Terms.{Terms}
 use Rattle.tables.specs.Leading.{leading}
 use Rattle.tables.specs.Rows.{accountOctets, linkOctets, termsAt, linkAt, linksInUse, otherNumber, found}
-use Rattle.tables.specs.declared.Found.{Found}
 use Rattle.tables.specs.declared.Link.{Link}
 use Rattle.tables.specs.declared.Found.the-variants.{At, Nowhere}
-use Rattle.tables.proofs.Leading.{leading-on, leading-stop, leading-high}
+use Rattle.tables.proofs.Leading.{leading-on, leading-stop}
 
 -- ---- the same octets at two places
 module _ (s t : List ℕ) (a b : ℕ) where

@@ -1,12 +1,11 @@
 -- `copy_rows`: nothing without room, else row by row. The loop's invariant: the first i rows are laid. Assumes nothing.
-use Prim.Native.Nat.{ℕ, _+_, _-_, _*_, _≤_, _<_, _^_}
-use mathlib.Core.List.{List}
-use mathlib.Core.Path.{_≡_, refl, sym, ap, _∙_}
-use native.Mathlib.Nat.{le-antisymm, min-le-right, mul-le-mul, le-trans, zero-add}
+use Prim.Native.Nat.{_+_, _-_, _*_, _≤_}
+use mathlib.Core.Path.{_≡_, refl, _∙_}
+use native.Mathlib.Nat.{le-antisymm, min-le-right}
 use native.Mathlib.Numerals.{add-one}
 use native.Mathlib.Omega.{arith}
 use lib.ListN.{length}
-use Rattle.octets.specs.Runs.{octetsAt, joined, put}
+use Rattle.octets.specs.Runs.{joined, put}
 use Rattle.octets.proofs.Parts.{length-part, length-joined}
 use Rattle.octets.proofs.Runs.{put-refused, length-laid, lay-none}
 use Rattle.octets.proofs.Tests.{has-room-first}

@@ -1,7 +1,6 @@
 -- `put_field`: nothing without room, else tag, length and data side by side. Assumes nothing.
 use Prim.Native.Nat.{_+_, _≤_}
 use native.Mathlib.Omega.{arith}
-use mathlib.Core.Path.{_≡_, ap, _∙_}
 use lib.ListN.{length}
 use Rattle.octets.proofs.Parts.{length-part}
 use Rattle.octets.proofs.Runs.{put-refused, length-laid}

@@ -1,5 +1,5 @@
 -- `put_image`: nothing without room, else head, accounts, links and end side by side. Assumes nothing.
-use mathlib.Core.Path.{_≡_, sym, _∙_}
+use mathlib.Core.Path.{sym, _∙_}
 use Rattle.octets.proofs.Runs.{put-refused}
 use Rattle.image_writer.proofs.Laying.{length-image, image-laid, room-of}
 use borrow.Author.Needs.{needs}
