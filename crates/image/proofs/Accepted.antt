@@ -11,7 +11,7 @@ use Rattle.octets.specs.Numbers.{numberAt}
 use Rattle.octets.proofs.Tests.{split, both}
 use Rattle.tables.specs.Rules.{accountGood, linkGood}
 use Rattle.tables.proofs.Leading.{leading-before, leading-fails}
-use Rattle.image.specs.Layout.{headTag, accountTag, linkTag, endTag, fieldHead, headOctets, fieldPlace, imageLength, maxAccounts, maxLinks}
+use Rattle.image.specs.Layout.{headTag, accountTag, linkTag, endTag, tagAndLength, headOctets, fieldPlace, imageLength, maxAccounts, maxLinks}
 use Rattle.image.specs.Read.{fieldCode, headGood, headCode, accountFields, linkFields, inOrder, dataOctets, isFull, valuesGood, tagAt, nextCode, goodField, accountCount, linkCount, refused, readImage}
 use Rattle.image.specs.Loading.{Runs, answerFor}
 use Rattle.image.specs.declared.Loaded.{Loaded}
@@ -20,17 +20,17 @@ use Rattle.image.proofs.Reading.{by-end, by-reading, by-loading}
 
 -- ---- a field that passes every check
 pub record Passed (s : List ℕ) (at : ℕ) (order : Bool) (size : ℕ) (full good : Bool) : Type 0 where
-  pub headed : at + fieldHead ≤ length s
+  pub headed : at + tagAndLength ≤ length s
   pub ordered : order ≡ true
   pub sized : numberAt 2 s (at + 1) ≡ size
-  pub whole : at + fieldHead + size ≤ length s
+  pub whole : at + tagAndLength + size ≤ length s
   pub few : full ≡ false
   pub sound : good ≡ true
 
 module _ (s : List ℕ) (at : ℕ) (order : Bool) (size : ℕ) (full good : Bool) (z : fieldCode s at order size full good ≡ 0) where
-  passed-headed : at + fieldHead ≤ length s
+  passed-headed : at + tagAndLength ≤ length s
   passed-headed =
-      split (leb (at + fieldHead) (length s))
+      split (leb (at + tagAndLength) (length s))
       (λ e. leb-true _ _ e)
       (λ e. let h = code-short s at order size full good (leb-false _ _ e) in absurd (omega arith))
 
@@ -45,9 +45,9 @@ module _ (s : List ℕ) (at : ℕ) (order : Bool) (size : ℕ) (full good : Bool
       (λ e. eqb-true _ _ e)
       (λ e. let h = code-length s at order size full good passed-headed (ap not passed-ordered) _ refl (eqb-false _ _ e) in absurd (omega arith))
 
-  passed-whole : at + fieldHead + size ≤ length s
+  passed-whole : at + tagAndLength + size ≤ length s
   passed-whole =
-      split (leb (at + fieldHead + size) (length s))
+      split (leb (at + tagAndLength + size) (length s))
       (λ e. leb-true _ _ e)
       (λ e. let h = code-cut s at order size full good passed-headed (ap not passed-ordered) _ refl passed-sized (leb-false _ _ e) in absurd (omega arith))
 

@@ -11,7 +11,7 @@ use Rattle.octets.specs.Numbers.{numberAt}
 use Rattle.octets.proofs.Tests.{split}
 use Rattle.tables.specs.Rows.{accountOctets, linkOctets}
 use Rattle.tables.specs.Rules.{accountGood, linkGood}
-use Rattle.image.specs.Layout.{headTag, headOctets, accountTag, linkTag, endTag, edition, fieldHead, accountSize, linkSize, fieldPlace, dataPlace, maxAccounts, maxLinks, constantGood}
+use Rattle.image.specs.Layout.{headTag, headOctets, accountTag, linkTag, endTag, edition, tagAndLength, accountSize, linkSize, fieldPlace, dataPlace, maxAccounts, maxLinks, constantGood}
 use Rattle.image.specs.Read.{fieldCode, headGood, headCode, accountFields, linkFields, inOrder, dataOctets, isFull, valuesGood, tagAt, nextCode, goodField}
 
 -- ---- where the data of accounts and links stand
@@ -25,11 +25,11 @@ link-place n j = omega arith
 
 -- ---- the code of a field
 module _ (s : List ℕ) (at : ℕ) (order : Bool) (size : ℕ) (full good : Bool) where
-  pub code-short : length s < at + fieldHead → 20 ≡ fieldCode s at order size full good
+  pub code-short : length s < at + tagAndLength → 20 ≡ fieldCode s at order size full good
   unfolding fieldCode
   code-short h = simp (lt-leb _ _ h)
 
-  module _ (h : at + fieldHead ≤ length s) where
+  module _ (h : at + tagAndLength ≤ length s) where
     pub code-order : not order ≡ true → 21 ≡ fieldCode s at order size full good
     unfolding fieldCode
     code-order e = simp (le-leb _ _ h, not-true order e)
@@ -40,11 +40,11 @@ module _ (s : List ℕ) (at : ℕ) (order : Bool) (size : ℕ) (full good : Bool
       code-length r v d = simp (le-leb _ _ h, not-false order o, ← v, ne-eqb _ _ d)
 
       module _ (r : ℕ) (v : r ≡ numberAt 2 s (at + 1)) (l : r ≡ size) where
-        pub code-cut : length s < at + fieldHead + size → 20 ≡ fieldCode s at order size full good
+        pub code-cut : length s < at + tagAndLength + size → 20 ≡ fieldCode s at order size full good
         unfolding fieldCode
         code-cut k = simp (le-leb _ _ h, not-false order o, ← v, eq-eqb _ _ l, lt-leb _ _ k)
 
-        module _ (k : at + fieldHead + size ≤ length s) where
+        module _ (k : at + tagAndLength + size ≤ length s) where
           pub code-full : full ≡ true → 24 ≡ fieldCode s at order size full good
           unfolding fieldCode
           code-full f = simp (le-leb _ _ h, not-false order o, ← v, eq-eqb _ _ l, le-leb _ _ k, f)

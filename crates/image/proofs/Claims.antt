@@ -15,8 +15,8 @@ use Rattle.octets.proofs.Tests.{split}
 use Rattle.octets.proofs.Runs.{put-fits, put-no-room}
 use Rattle.tables.specs.Rows.{accountOctets, linkOctets}
 use Rattle.tables.proofs.Leading.{leading-fails}
-use Rattle.image.specs.Layout.{headTag, accountTag, linkTag, endTag, headSize, accountSize, linkSize, fieldHead, headOctets, fieldPlace, imageLength, maxAccounts, maxLinks, longestImage}
-use Rattle.image.specs.Read.{fieldCode, headGood, headCode, inOrder, dataOctets, isFull, valuesGood, tagAt, nextCode, goodField, accountCount, linkCount, refused, readEnd, readImage}
+use Rattle.image.specs.Layout.{headTag, accountTag, linkTag, endTag, headSize, accountSize, linkSize, tagAndLength, headOctets, fieldPlace, imageLength, maxAccounts, maxLinks, longestImage}
+use Rattle.image.specs.Read.{fieldCode, headGood, headCode, accountFields, inOrder, dataOctets, isFull, valuesGood, tagAt, nextCode, goodField, accountCount, linkCount, refused, readEnd, readImage}
 use Rattle.image.specs.Loading.{Runs, accountRows, linkRows, capacities, filled}
 use Rattle.image.specs.Claims.{ImageFigures, LoadRefuses, ReadCodes, LoadCodes, RefusedLoadKeeps, OffsetsInside, RowsBeyondKept, AcceptedEnds, walked, ReadFieldByField}
 use Rattle.image.proofs.Accepted.{Accepted, accepted, refused-zeros, head-passes, next-passes, good-tag, good-code, counted-account, counted-link, some-accounts, some-links, end-tag}
@@ -26,7 +26,7 @@ use Rattle.image.proofs.Reading.{few-accounts, few-links, few-read, by-
 
 pub image-figures : ImageFigures
 unfolding fieldPlace
-image-figures = (refl, refl, refl, refl, refl, refl, refl, refl)
+image-figures = (refl, refl, refl, refl, refl, refl, refl, refl, refl, refl, refl, refl, refl)
 
 -- ---- codes
 -- what holds of both answers holds of the choice
@@ -39,10 +39,10 @@ module _ (P : ℕ → Type 0) (p0 : P 0) (p20 : P 20) (p21 : P 21) (p22 : P 22) 
   by-field : (s : List ℕ) (at : ℕ) (order : Bool) (size : ℕ) (full good : Bool) → P (fieldCode s at order size full good)
   unfolding fieldCode
   by-field s at order size full good =
-      by-choice P (not (leb (at + fieldHead) (length s))) _ _ p20
+      by-choice P (not (leb (at + tagAndLength) (length s))) _ _ p20
       (by-choice P (not order) _ _ p21
       (by-choice P (not (eqb (numberAt 2 s (at + 1)) size)) _ _ p22
-      (by-choice P (not (leb (at + fieldHead + size) (length s))) _ _ p20
+      (by-choice P (not (leb (at + tagAndLength + size) (length s))) _ _ p20
       (by-choice P full _ _ p24
       (by-choice P (not good) _ _ p23 p0)))))
 
@@ -160,7 +160,7 @@ module _ (s : List ℕ) (z : headCode s ≡ 0) where
   accounts-inside (suc n) h =
       let g : goodField s accountTag n 0 ≡ true = counted-account s n (omega arith) in
       let o : accountOctets ≡ dataOctets (tagAt s n 0) = octets-account (tagAt s n 0) (good-tag s accountTag n 0 g) in
-      let w : fieldPlace n 0 + fieldHead + dataOctets (tagAt s n 0) ≤ length s = next-passes s n 0 (good-code s accountTag n 0 g) .whole in
+      let w : fieldPlace n 0 + tagAndLength + dataOctets (tagAt s n 0) ≤ length s = next-passes s n 0 (good-code s accountTag n 0 g) .whole in
       let p = place-account n in
       omega arith
 
@@ -171,7 +171,7 @@ module _ (s : List ℕ) (z : headCode s ≡ 0) where
       let g : goodField s linkTag n m ≡ true = counted-link s n m (omega arith) in
       let t : tagAt s n m ≡ linkTag = good-tag s linkTag n m g in
       let o : linkOctets ≡ dataOctets (tagAt s n m) = octets-link (tagAt s n m) (λ a. omega arith) t in
-      let w : fieldPlace n m + fieldHead + dataOctets (tagAt s n m) ≤ length s = next-passes s n m (good-code s linkTag n m g) .whole in
+      let w : fieldPlace n m + tagAndLength + dataOctets (tagAt s n m) ≤ length s = next-passes s n m (good-code s linkTag n m g) .whole in
       let p = place-link n m in
       omega arith
 
@@ -215,7 +215,7 @@ filled-beyond : (s : List ℕ) (n m : ℕ) (r : Runs) → Beyond n m (filled s n
 unfolding filled
 filled-beyond s n m r = (
   drop-put (r .accounts) (accountRows s n) (accountOctets * n) (length-account-rows s n m),
-  drop-put (r .credits) (capacities s n) n (length-capacities s n m),
+  drop-put (r .credits) (capacities (accountFields s) n) n (length-capacities s n m),
   drop-put (r .lasts) (replicate n 0) n (length-replicate n 0),
   drop-put (r .links) (linkRows s n m) (linkOctets * m) (length-link-rows s n m),
 )

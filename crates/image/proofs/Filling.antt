@@ -17,7 +17,7 @@ use Rattle.account.specs.declared.Account.{Account}
 use Rattle.account.proofs.Methods.{valid-by}
 use Rattle.tables.specs.Rows.{accountOctets, linkOctets, termsAt, accountIn, rowOctets}
 use Rattle.tables.specs.Rules.{accountGood}
-use Rattle.image.specs.Layout.{fieldHead, dataPlace}
+use Rattle.image.specs.Layout.{tagAndLength, dataPlace}
 use Rattle.image.specs.Read.{fieldRows, accountFields}
 use Rattle.image.specs.Loading.{Runs, runsOf, loadingOf, accountRows, linkRows, fullCredit, capacities, filled, answerFor, loading}
 use Rattle.image.specs.declared.Loaded.{Loaded}
@@ -50,23 +50,23 @@ fill-zero = fill-with 0
 
 -- ---- a row of the image, read from a place that is cut to the image's length
 pub row-clamped : (s : List ℕ) (first start size i : ℕ) → start ≡ min first (length s)
-    → octetsAt size s (start + (fieldHead + size) * i) ≡ rowOctets size (fieldRows s first size) i
+    → octetsAt size s (start + (tagAndLength + size) * i) ≡ rowOctets size (fieldRows s first size) i
 row-clamped s first start size i e =
-    part-same size s s (start + (fieldHead + size) * i) (first + (fieldHead + size) * i)
+    part-same size s s (start + (tagAndLength + size) * i) (first + (tagAndLength + size) * i)
     (λ k l.
-    ap (λ (p : ℕ). getD s p 0) (add-assoc start ((fieldHead + size) * i) k ∙ ap (λ (p : ℕ). p + ((fieldHead + size) * i + k)) e)
-    ∙ getD-clamped s first ((fieldHead + size) * i + k)
-    ∙ ap (λ (p : ℕ). getD s p 0) (sym (add-assoc first ((fieldHead + size) * i) k)))
+    ap (λ (p : ℕ). getD s p 0) (add-assoc start ((tagAndLength + size) * i) k ∙ ap (λ (p : ℕ). p + ((tagAndLength + size) * i + k)) e)
+    ∙ getD-clamped s first ((tagAndLength + size) * i + k)
+    ∙ ap (λ (p : ℕ). getD s p 0) (sym (add-assoc first ((tagAndLength + size) * i) k)))
 
 -- the next row laid behind those before it
 pub row-laid : (s d e : List ℕ) (first start size n i : ℕ) → start ≡ min first (length s) → size * n ≤ length d → i < n
-    → e ≡ put (put d 0 (joined (rowOctets size (fieldRows s first size)) i)) (size * i) (octetsAt size s (start + (fieldHead + size) * i))
+    → e ≡ put (put d 0 (joined (rowOctets size (fieldRows s first size)) i)) (size * i) (octetsAt size s (start + (tagAndLength + size) * i))
     → e ≡ put d 0 (joined (rowOctets size (fieldRows s first size)) (suc i))
 row-laid s d e first start size n i p h l v =
     let f : ℕ → List ℕ = rowOctets size (fieldRows s first size) in
     v ∙ ap (put (put d 0 (joined f i)) (size * i)) (row-clamped s first start size i p)
     ∙ ap (λ (q : ℕ). put (put d 0 (joined f i)) q (f i)) (sym (zero-add (size * i)))
-    ∙ lay-next f size (λ k. length-part size s (first + (fieldHead + size) * k)) d 0 n i (rw (zero-add (size * n)) h) l
+    ∙ lay-next f size (λ k. length-part size s (first + (tagAndLength + size) * k)) d 0 n i (rw (zero-add (size * n)) h) l
 
 -- all of them, of accounts and of links
 module _ (s d e : List ℕ) (at : ℕ) where
@@ -87,14 +87,14 @@ pub capacity-read : (s : List ℕ) (i at : ℕ) (a : Account) (x : ℕ) → at �
 capacity-read s i at a x e f g = g ∙ ap capacityOf (f ∙ ap (λ (p : ℕ). accountOf (termsAt s p) 0 0) (e ∙ account-place i))
 
 full-capacity : (s : List ℕ) (i : ℕ) → accountGood (accountFields s) i ≡ true
-    → capacityOf (accountOf (accountIn (accountFields s) i) 0 0) ≡ fullCredit s i
+    → capacityOf (accountOf (accountIn (accountFields s) i) 0 0) ≡ fullCredit (accountFields s) i
 unfolding accountGood capacityOf
 full-capacity s i e = simp (valid-by (accountOf (accountIn (accountFields s) i) 0 0) e (omega arith))
 
-pub capacities-good : (s : List ℕ) (n : ℕ) → ((i : ℕ) → i < n → accountGood (accountFields s) i ≡ true) → joined (methodCapacity s) n ≡ capacities s n
+pub capacities-good : (s : List ℕ) (n : ℕ) → ((i : ℕ) → i < n → accountGood (accountFields s) i ≡ true) → joined (methodCapacity s) n ≡ capacities (accountFields s) n
 unfolding capacities
 capacities-good s n h =
-    joined-same (methodCapacity s) (λ i. fullCredit s i ∷ []) n
+    joined-same (methodCapacity s) (λ i. fullCredit (accountFields s) i ∷ []) n
     (λ i l. ap (λ (x : ℕ). x ∷ []) (full-capacity s i (h i l)))
 
 -- ---- what loading leaves: nothing where it refuses, else the rows that the image names
@@ -115,7 +115,7 @@ module _ (s : List ℕ) (r : Runs) (q : Loaded) (e : q ≡ answerFor s r) (a c t
   fills : q .code ≡ 0 → runsOf a c t l ≡ filled s (q .accounts) (q .links) r
   unfolding filled
   fills z =
-      let c1 : c ≡ put (r .credits) 0 (capacities s (q .accounts)) =
+      let c1 : c ≡ put (r .credits) 0 (capacities (accountFields s) (q .accounts)) =
       p2 ∙ ap (put (r .credits) 0) (capacities-good s (q .accounts) (loaded-good s r q e z)) in
       rw (p1, c1, p3, p4)
 
@@ -129,7 +129,7 @@ module _ (s : List ℕ) (r : Runs) (q : Loaded) (e : q ≡ answerFor s r) (a c t
       ap (loadingOf q) (keeps (refused-none s r q e d .0) (refused-none s r q e d .1)) ∙ rw e (simp (rw e at z)))
 
 -- ---- a size in one octet, a field's head beside it, times a count in two octets
-pub small-product : (x y : ℕ) → x < 2 ^ 8 + fieldHead → y < 2 ^ 16 → x * y < 2 ^ 25
+pub small-product : (x y : ℕ) → x < 2 ^ 8 + tagAndLength → y < 2 ^ 16 → x * y < 2 ^ 25
 small-product x y h k =
     let hx : x ≤ 258 = omega arith in
     let hy : y ≤ 65535 = omega arith in

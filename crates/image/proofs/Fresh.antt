@@ -131,9 +131,9 @@ module _ (s : List ℕ) (n m : ℕ) where
   unfolding linkRows
   length-link-rows = length-joined (rowOctets linkOctets (linkFields s n)) linkOctets (λ j. length-part linkOctets s _) m
 
-  pub length-capacities : length (capacities s n) ≡ n
+  pub length-capacities : length (capacities (accountFields s) n) ≡ n
   unfolding capacities
-  length-capacities = length-joined (λ i. fullCredit s i ∷ []) 1 (λ i. refl) n ∙ one-mul n
+  length-capacities = length-joined (λ i. fullCredit (accountFields s) i ∷ []) 1 (λ i. refl) n ∙ one-mul n
 
 pub filled-fresh : (s : List ℕ) (r : Runs) → readImage s .code ≡ 0 → runsHeld s r ≡ true → Fresh s (filled s (readImage s .accounts) (readImage s .links) r)
 unfolding filled
@@ -142,22 +142,22 @@ filled-fresh s r z t =
     let m : ℕ = readImage s .links in
     let h = held-long n m (length (r .accounts)) (length (r .credits)) (length (r .lasts)) (length (r .links)) t in
     let a : length (accountRows s n) ≡ accountOctets * n = length-account-rows s n m in
-    let c : length (capacities s n) ≡ n = length-capacities s n m in
+    let c : length (capacities (accountFields s) n) ≡ n = length-capacities s n m in
     let u : length {A = ℕ} (replicate n 0) ≡ n = length-replicate n 0 in
     let l : length (linkRows s n m) ≡ linkOctets * m = length-link-rows s n m in
     record {
       accepted = z;
       accounts = begins-put (r .accounts) (accountRows s n) (rw a (h .accounts-long));
-      credits = begins-put (r .credits) (capacities s n) (rw c (h .credits-long));
+      credits = begins-put (r .credits) (capacities (accountFields s) n) (rw c (h .credits-long));
       lasts = begins-put (r .lasts) (replicate n 0) (rw u (h .lasts-long));
       links = begins-put (r .links) (linkRows s n m) (rw l (h .links-long));
     }
 
 pub load-fresh : LoadFresh
 load-fresh s r =
-    by-load s r (λ w. w .answer .code ≡ 0 → Fresh s (w .runs))
+    by-load s r (λ w. w .answer .code ≡ 0 → (w .answer ≡ readImage s) × Fresh s (w .runs))
     (λ d z. absurd (d z))
-    (λ z t _. filled-fresh s r z t)
+    (λ z t _. (refl, filled-fresh s r z t))
     (λ _ _ z. absurd (omega arith))
 
 -- ---- fresh tables hold the image's rows
@@ -178,7 +178,7 @@ module _ (s : List ℕ) (n m : ℕ) (d : List ℕ) where
       (ap (octetsAt linkOctets d) (zero-add (linkOctets * j))
       ∙ rows-at (rowOctets linkOctets (linkFields s n)) linkOctets (λ k. length-part linkOctets s _) m d e j h))
 
-  credit-held : Begins (capacities s n) d → (i : ℕ) → i < n → getD d i 0 ≡ capacity (accountIn (accountFields s) i)
+  credit-held : Begins (capacities (accountFields s) n) d → (i : ℕ) → i < n → getD d i 0 ≡ capacity (accountIn (accountFields s) i)
   unfolding capacities
   credit-held e i h = ones-at (λ k. capacity (accountIn (accountFields s) k)) n d e i h
 
@@ -187,14 +187,14 @@ fresh-holds s r f =
     let n : ℕ = readImage s .accounts in
     let m : ℕ = readImage s .links in
     let a : length (accountRows s n) ≡ accountOctets * n = length-account-rows s n m in
-    let c : length (capacities s n) ≡ n = length-capacities s n m in
+    let c : length (capacities (accountFields s) n) ≡ n = length-capacities s n m in
     let u : length {A = ℕ} (replicate n 0) ≡ n = length-replicate n 0 in
     let l : length (linkRows s n m) ≡ linkOctets * m = length-link-rows s n m in
     record {
       long =
           long-held n m (length (r .accounts)) (length (r .credits)) (length (r .lasts)) (length (r .links))
           (rw a at (begins-length (accountRows s n) (r .accounts) (f .accounts)))
-          (rw c at (begins-length (capacities s n) (r .credits) (f .credits)))
+          (rw c at (begins-length (capacities (accountFields s) n) (r .credits) (f .credits)))
           (rw u at (begins-length (replicate n 0) (r .lasts) (f .lasts)))
           (rw l at (begins-length (linkRows s n m) (r .links) (f .links)));
       accounts = account-held s n m (r .accounts) (f .accounts);

@@ -1,4 +1,5 @@
 pub mod Accepted
+pub mod Bench
 pub mod Checks
 pub mod Claims
 pub mod Filling

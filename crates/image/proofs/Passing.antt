@@ -11,7 +11,7 @@ use Rattle.octets.specs.Numbers.{numberAt}
 use Rattle.octets.proofs.Tests.{split, both}
 use Rattle.tables.specs.Rules.{accountGood, linkGood}
 use Rattle.tables.proofs.Leading.{leading-is}
-use Rattle.image.specs.Layout.{headTag, accountTag, linkTag, endTag, edition, fieldHead, headOctets, headSize, accountSize, linkSize, fieldPlace, imageLength, maxAccounts, maxLinks, constantGood}
+use Rattle.image.specs.Layout.{headTag, accountTag, linkTag, endTag, edition, tagAndLength, headOctets, headSize, accountSize, linkSize, fieldPlace, imageLength, maxAccounts, maxLinks, constantGood}
 use Rattle.image.specs.Read.{headGood, headCode, accountFields, linkFields, inOrder, dataOctets, isFull, valuesGood, tagAt, nextCode, goodField, accountCount, linkCount, readImage}
 use Rattle.image.proofs.Checks.{code-good, order-first, order-link, order-account, order-end, octets-account, octets-link, octets-end, full-account, full-link, full-end, values-account, values-link, values-end}
 use Rattle.image.proofs.Accepted.{good-by}
@@ -36,7 +36,7 @@ head-code-by s l t n g =
     sym (code-good s 0 (eqb (getD s 0 0) headTag) headOctets false (headGood s) (omega arith) (ap not (eq-eqb _ _ t)) _ refl n (omega arith) refl g)
 
 -- ---- a later field, by its tag
-module _ (s : List ℕ) (n m tag size : ℕ) (t : tagAt s n m ≡ tag) (v : numberAt 2 s (fieldPlace n m + 1) ≡ size) (l : fieldPlace n m + fieldHead + size ≤ length s)
+module _ (s : List ℕ) (n m tag size : ℕ) (t : tagAt s n m ≡ tag) (v : numberAt 2 s (fieldPlace n m + 1) ≡ size) (l : fieldPlace n m + tagAndLength + size ≤ length s)
     (o : inOrder (tagAt s n m) n m ≡ true) (z : size ≡ dataOctets (tagAt s n m)) (f : isFull (tagAt s n m) n m ≡ false) (g : valuesGood s (tagAt s n m) n m ≡ true) where
   next-by : nextCode s n m ≡ 0
   unfolding nextCode
@@ -65,7 +65,7 @@ module _ (s : List ℕ) where
       good-by s linkTag n j t
       (next-by s n j linkTag 13 t v (omega arith) o (octets-link x a t) (sym (full-link x n j a t) ∙ lt-leb _ _ h) (sym (values-link s x n j a t) ∙ g))
 
-  pub end-passes : (n m : ℕ) → 1 ≤ n → 1 ≤ m → tagAt s n m ≡ endTag → numberAt 2 s (fieldPlace n m + 1) ≡ 0 → fieldPlace n m + fieldHead ≤ length s
+  pub end-passes : (n m : ℕ) → 1 ≤ n → 1 ≤ m → tagAt s n m ≡ endTag → numberAt 2 s (fieldPlace n m + 1) ≡ 0 → fieldPlace n m + tagAndLength ≤ length s
       → nextCode s n m ≡ 0
   end-passes n m p q t v l =
       let x = tagAt s n m in

@@ -1,6 +1,6 @@
 -- An image of any length is answered by its first octets: nothing past imagePrefix is read, and no length past it is compared.
 -- Assumes nothing.
-use Prim.Native.Nat.{ℕ, suc, _+_, _-_, _≤_, _<_}
+use Prim.Native.Nat.{ℕ, suc, _+_, _-_, _*_, _≤_, _<_}
 use mathlib.Core.Bool.{Bool, false}
 use mathlib.Core.List.{List}
 use mathlib.Core.Path.{_≡_, refl, sym, ap, _∙_}
@@ -16,11 +16,15 @@ use Rattle.tables.specs.Rows.{accountOctets, linkOctets, accountIn, linkIn}
 use Rattle.tables.proofs.Leading.{leading-same}
 use Rattle.tables.proofs.Rows.{terms-same, link-same}
 use Rattle.tables.proofs.Rules.{account-good-same, link-good-same}
-use Rattle.image.specs.Layout.{headTag, accountTag, linkTag, fieldHead, headOctets, fieldPlace, imageLength, maxAccounts, maxLinks, imagePrefix}
+use Rattle.image.specs.Layout.{headTag, accountTag, linkTag, tagAndLength, headOctets, headSize, accountSize, linkSize, fieldPlace, imageLength, maxAccounts, maxLinks, imagePrefix}
 use Rattle.image.specs.Read.{fieldCode, headGood, headCode, accountFields, linkFields, inOrder, dataOctets, isFull, valuesGood, tagAt, nextCode, goodField, accountCount, linkCount, readEnd, readImage}
-use Rattle.image.specs.Claims.{PrefixRead}
+use Rattle.image.specs.Loading.{Runs, loadingOf, loading}
+use Rattle.image.specs.Claims.{PrefixRead, PrefixLoad}
+use Rattle.image.specs.declared.Loaded.{Loaded}
+use Rattle.image.proofs.Accepted.{accepted}
 use Rattle.image.proofs.Checks.{octets-account, octets-link, octets-end}
-use Rattle.image.proofs.Reading.{few-accounts, few-links, end-refused, end-surplus, end-accepted, head-refused, head-passed, by-end, by-reading}
+use Rattle.image.proofs.Fresh.{by-load}
+use Rattle.image.proofs.Reading.{few-read, few-accounts, few-links, end-refused, end-surplus, end-accepted, head-refused, head-passed, by-end, by-reading}
 
 -- no field's data are longer than a link's
 small-data : (tag : ℕ) → dataOctets tag ≤ linkOctets
@@ -32,17 +36,21 @@ small-data tag =
     (λ f. let h : linkOctets ≡ dataOctets tag = octets-link tag (eqb-false _ _ e) (eqb-true _ _ f) in omega arith)
     (λ f. let h : 0 ≡ dataOctets tag = octets-end tag (eqb-false _ _ e) (eqb-false _ _ f) in omega arith))
 
+-- the prefix, as a sum of sizes
+abbrev prefix : ℕ
+prefix = headSize + accountSize * maxAccounts + linkSize * maxLinks + linkSize
+
 -- ---- two runs with the same first octets, and lengths that are alike up to there
-module _ (s t : List ℕ) (same : (i : ℕ) → i < 4696 → getD s i 0 ≡ getD t i 0) (long : (x : ℕ) → x ≤ 4696 → leb x (length s) ≡ leb x (length t)) where
-  number-same : (w at : ℕ) → at + w ≤ 4696 → numberAt w s at ≡ numberAt w t at
+module _ (s t : List ℕ) (same : (i : ℕ) → i < prefix → getD s i 0 ≡ getD t i 0) (long : (x : ℕ) → x ≤ prefix → leb x (length s) ≡ leb x (length t)) where
+  number-same : (w at : ℕ) → at + w ≤ prefix → numberAt w s at ≡ numberAt w t at
   number-same w at h = number-shift w s t at at (λ k l. same (at + k) (omega arith))
 
   -- a field that ends before the prefix does has the same code
-  code-same : (at : ℕ) (order : Bool) (size : ℕ) (full a b : Bool) → at + fieldHead + size ≤ 4696 → a ≡ b
+  code-same : (at : ℕ) (order : Bool) (size : ℕ) (full a b : Bool) → at + tagAndLength + size ≤ prefix → a ≡ b
       → fieldCode s at order size full a ≡ fieldCode t at order size full b
   unfolding fieldCode
   code-same at order size full a b h g =
-      rw (long (at + fieldHead) (omega arith), number-same 2 (at + 1) (omega arith), long (at + fieldHead + size) h, g)
+      rw (long (at + tagAndLength) (omega arith), number-same 2 (at + 1) (omega arith), long (at + tagAndLength + size) h, g)
 
   head-good-same : headGood s ≡ headGood t
   unfolding headGood
@@ -64,7 +72,7 @@ module _ (s t : List ℕ) (same : (i : ℕ) → i < 4696 → getD s i 0 ≡ getD
 
     module _ (m : ℕ) (few-m : m ≤ maxLinks) where
       -- the field behind n accounts and m links, and how many there are
-      place-low : fieldPlace n m + 16 ≤ 4696
+      place-low : fieldPlace n m + linkSize ≤ prefix
       unfolding fieldPlace
       place-low = omega arith
 
@@ -104,7 +112,7 @@ module _ (s t : List ℕ) (same : (i : ℕ) → i < 4696 → getD s i 0 ≡ getD
       (λ i l. field-same i (omega arith) 0 (omega arith) accountTag)
 
   -- a run shorter than the prefix is as long as the other
-  lengths-same : length s < 4696 → length s ≡ length t
+  lengths-same : length s < prefix → length s ≡ length t
   lengths-same h =
       let a : length s ≤ length t = leb-true _ _ (sym (long (length s) (omega arith)) ∙ le-leb (length s) (length s) (omega arith)) in
       let b : length t ≤ length s = ltb-false _ _ (sym (long (suc (length s)) (omega arith)) ∙ le-ltb (length s) (length s) (omega arith)) in
@@ -134,22 +142,42 @@ module _ (s t : List ℕ) (same : (i : ℕ) → i < 4696 → getD s i 0 ≡ getD
       (end-same (accountCount s) (linkCount s (accountCount s)) (few-accounts s) (few-links s (accountCount s))))
 
 -- ---- the prefix of a run
-prefix-is : imagePrefix ≡ 4696
+prefix-is : imagePrefix ≡ prefix
 unfolding fieldPlace
 prefix-is = refl
 
-prefix-long : (s : List ℕ) (x : ℕ) → x ≤ 4696 → leb x (length (take 4696 s)) ≡ leb x (length s)
+prefix-long : (s : List ℕ) (x : ℕ) → x ≤ prefix → leb x (length (take prefix s)) ≡ leb x (length s)
 prefix-long s x h =
-    split (leb 4696 (length s))
+    split (leb prefix (length s))
     (λ e.
-    let k : 4696 ≤ length s = leb-true _ _ e in
-    let l : length (take 4696 s) ≡ 4696 = length-take-le 4696 s k in
-    le-leb x (length (take 4696 s)) (omega arith) ∙ sym (le-leb x (length s) (omega arith)))
+    let k : prefix ≤ length s = leb-true _ _ e in
+    let l : length (take prefix s) ≡ prefix = length-take-le prefix s k in
+    le-leb x (length (take prefix s)) (omega arith) ∙ sym (le-leb x (length s) (omega arith)))
     (λ e.
-    let k : length s < 4696 = leb-false _ _ e in
-    ap (λ (u : List ℕ). leb x (length u)) (take-all 4696 s (omega arith)))
+    let k : length s < prefix = leb-false _ _ e in
+    ap (λ (u : List ℕ). leb x (length u)) (take-all prefix s (omega arith)))
 
 pub prefix-read : PrefixRead
 prefix-read s =
     ap (λ (p : ℕ). readImage (take p s)) prefix-is
-    ∙ read-same (take 4696 s) s (λ i l. getD-take 4696 s i 0 l) (prefix-long s)
+    ∙ read-same (take prefix s) s (λ i l. getD-take prefix s i 0 l) (prefix-long s)
+
+-- ---- loading: an accepted image is no longer than the prefix, and what is refused leaves the runs
+short : (s : List ℕ) → readImage s .code ≡ 0 → length s ≤ prefix
+unfolding fieldPlace
+short s z = let l = accepted s z .length-is in let a = few-read s .0 in let b = few-read s .1 in omega arith
+
+refused-load : (s : List ℕ) (r : Runs) → (readImage s .code ≡ 0 → ⊥) → loading s r ≡ loadingOf (readImage s) r
+refused-load s r d =
+    by-load s r (λ w. w ≡ loadingOf (readImage s) r) (λ _. refl) (λ z _. absurd (d z)) (λ z _. absurd (d z))
+
+pub prefix-load : PrefixLoad
+prefix-load s r =
+    split (eqb (readImage s .code) 0)
+    (λ e. ap (λ (t : List ℕ). loading t r) (ap (λ (p : ℕ). take p s) prefix-is ∙ take-all prefix s (short s (eqb-true _ _ e))))
+    (λ e.
+    let d : (readImage s .code ≡ 0 → ⊥) = eqb-false _ _ e in
+    let q : readImage (take imagePrefix s) ≡ readImage s = prefix-read s in
+    refused-load (take imagePrefix s) r (λ z. d (sym (ap (λ (x : Loaded). x .code) q) ∙ z))
+    ∙ ap (λ (x : Loaded). loadingOf x r) q
+    ∙ sym (refused-load s r d))

@@ -7,15 +7,16 @@ use mathlib.Core.List.{List, [], _∷_, List·Memᴰ}
 use lib.ListN.{length, take, drop}
 use Rattle.octets.specs.Choice.{if_then_else_}
 use Rattle.tables.specs.Rows.{accountOctets, linkOctets}
-use Rattle.image.specs.Layout.{accountTag, linkTag, endTag, headSize, accountSize, linkSize, fieldHead, imageLength, maxAccounts, maxLinks, longestImage, imagePrefix}
+use Rattle.image.specs.Layout.{headTag, accountTag, linkTag, endTag, edition, headSize, accountSize, linkSize, tagAndLength, imageLength, maxAccounts, maxLinks, longestImage, imagePrefix}
 use Rattle.image.specs.Read.{headCode, tagAt, goodField, refused, readEnd, readImage}
 use Rattle.image.specs.Loading.{Runs, longEnough, loading}
 use Rattle.image.specs.declared.Loaded.{Loaded}
 
--- the figures: sizes of the fields, the limits, the longest image, and how much of any image settles its answer
+-- the figures: tags, edition, sizes of the fields, the limits, the longest image, and how much of any image settles its answer
 abbrev pub ImageFigures : Type 0
 ImageFigures =
-    (headSize ≡ 8) × (accountSize ≡ 9) × (linkSize ≡ 16) × (fieldHead ≡ 3)
+    (headTag ≡ 1) × (accountTag ≡ 2) × (linkTag ≡ 3) × (endTag ≡ 9) × (edition ≡ 1)
+    × (headSize ≡ 8) × (accountSize ≡ 9) × (linkSize ≡ 16) × (tagAndLength ≡ 3)
     × (maxAccounts ≡ 64) × (maxLinks ≡ 256) × (longestImage ≡ 4683) × (imagePrefix ≡ 4696)
 
 -- demand 1: the codes that reading and loading can answer
@@ -87,3 +88,7 @@ ReadFieldByField = (s : List ℕ) (k : ℕ) → maxAccounts + maxLinks < k → h
 -- an image of any length is answered by its first octets
 abbrev pub PrefixRead : Type 0
 PrefixRead = (s : List ℕ) → readImage (take imagePrefix s) ≡ readImage s
+
+-- and so is its load, into any runs
+abbrev pub PrefixLoad : Type 0
+PrefixLoad = (s : List ℕ) (r : Runs) → loading (take imagePrefix s) r ≡ loading s r

@@ -6,7 +6,7 @@ use mathlib.Core.Path.{_≡_}
 use lib.ListN.{length, getD, take, replicate}
 use Rattle.account.specs.Terms.{capacity}
 use Rattle.tables.specs.Rows.{accountTable, linkTable, accountIn, linkIn}
-use Rattle.tables.specs.Rules.{accountGood, linkSound}
+use Rattle.tables.specs.Rules.{accountGood, linkRowSound}
 use Rattle.image.specs.Layout.{maxAccounts, maxLinks}
 use Rattle.image.specs.Read.{accountFields, linkFields, readImage}
 use Rattle.image.specs.Loading.{Runs, accountRows, linkRows, capacities, longEnough, loading}
@@ -19,13 +19,16 @@ Begins xs ys = take (length xs) ys ≡ xs
 pub record Fresh (s : List ℕ) (r : Runs) : Type 0 where
   pub accepted : readImage s .code ≡ 0
   pub accounts : Begins (accountRows s (readImage s .accounts)) (r .accounts)
-  pub credits : Begins (capacities s (readImage s .accounts)) (r .credits)
+  pub credits : Begins (capacities (accountFields s) (readImage s .accounts)) (r .credits)
   pub lasts : Begins (replicate (readImage s .accounts) 0) (r .lasts)
   pub links : Begins (linkRows s (readImage s .accounts) (readImage s .links)) (r .links)
 
--- loading that answers 0 leaves fresh tables, whatever the runs held and however long they are
+-- loading that answers 0 answers what reading does, constant field and counts, and leaves fresh tables, whatever the runs held and
+-- however long they are
 abbrev pub LoadFresh : Type 0
-LoadFresh = (s : List ℕ) (r : Runs) → loading s r .answer .code ≡ 0 → Fresh s (loading s r .runs)
+LoadFresh =
+    (s : List ℕ) (r : Runs) → loading s r .answer .code ≡ 0
+    → (loading s r .answer ≡ readImage s) × Fresh s (loading s r .runs)
 
 -- and it answers 0 for every image that reads as 0 and runs that are long enough
 abbrev pub LoadAccepts : Type 0
@@ -52,8 +55,7 @@ pub record SoundTables (r : Runs) (n m : ℕ) : Type 0 where
   pub accounts : (i : ℕ) → i < n → accountGood (accountTable (r .accounts)) i ≡ true
   pub full : (i : ℕ) → i < n → getD (r .credits) i 0 ≡ capacity (accountIn (accountTable (r .accounts)) i)
   pub unused : (i : ℕ) → i < n → getD (r .lasts) i 0 ≡ 0
-  pub links : (j : ℕ) → j < m
-      → linkSound (linkIn (linkTable (r .links)) j) n (accountIn (accountTable (r .accounts)) (linkIn (linkTable (r .links)) j .account) .smax) ≡ true
+  pub links : (j : ℕ) → j < m → linkRowSound (accountTable (r .accounts)) (linkTable (r .links)) n j ≡ true
   pub rising : (i j : ℕ) → i < j → j < m → linkIn (linkTable (r .links)) i .number < linkIn (linkTable (r .links)) j .number
 
 abbrev pub FreshSound : Type 0

@@ -4,7 +4,7 @@ use mathlib.Core.Bool.{Bool}
 use mathlib.Core.List.{List, [], _∷_, _++_}
 use lib.ListN.{length}
 use lib.Dec.{eqb}
-use Rattle.octets.specs.Numbers.{octetsOf}
+use Rattle.octets.specs.Numbers.{numberAt, octetsOf}
 use Rattle.octets.specs.Runs.{joined}
 use Rattle.tables.specs.Rows.{Config, accountOctets, linkOctets, accountTable, linkTable, rowOctets}
 
@@ -37,30 +37,30 @@ imageOf g =
     ++ fieldOf endTag []
 
 -- ---- sizes that follow: tag and length; the head's data; each field
-abbrev pub fieldHead : ℕ
-fieldHead = 3
+abbrev pub tagAndLength : ℕ
+tagAndLength = 3
 
 abbrev pub headOctets : ℕ
 headOctets = 5
 
 abbrev pub headSize : ℕ
-headSize = fieldHead + headOctets
+headSize = tagAndLength + headOctets
 
 abbrev pub accountSize : ℕ
-accountSize = fieldHead + accountOctets
+accountSize = tagAndLength + accountOctets
 
 abbrev pub linkSize : ℕ
-linkSize = fieldHead + linkOctets
+linkSize = tagAndLength + linkOctets
 
--- the offset of the field behind n accounts and m links, of its data, and the length of an image that ends with it
+-- the offset of the field behind n accounts and m links, and of its data; that is also the length of an image that ends with it
 unfoldable pub fieldPlace : ℕ → ℕ → ℕ
 fieldPlace n m = headSize + accountSize * n + linkSize * m
 
 abbrev pub dataPlace : ℕ → ℕ → ℕ
-dataPlace n m = fieldPlace n m + fieldHead
+dataPlace n m = fieldPlace n m + tagAndLength
 
 abbrev pub imageLength : ℕ → ℕ → ℕ
-imageLength n m = fieldPlace n m + fieldHead
+imageLength n m = dataPlace n m
 
 -- ---- limits ("Accounts and links"), and the longest image
 abbrev pub maxAccounts : ℕ
@@ -76,6 +76,15 @@ longestImage = imageLength maxAccounts maxLinks
 abbrev pub imagePrefix : ℕ
 imagePrefix = fieldPlace maxAccounts maxLinks + linkSize
 
--- ---- the two low bits of the constant field's first octet are set
+-- ---- the head's data: the edition, then the constant field, whose first octet has its two low bits set
+abbrev pub editionPlace : ℕ
+editionPlace = tagAndLength
+
+abbrev pub constantPlace : ℕ
+constantPlace = editionPlace + 1
+
+abbrev pub constantOf : List ℕ → ℕ
+constantOf s = numberAt 4 s constantPlace
+
 unfoldable pub constantGood : ℕ → Bool
 constantGood c = eqb (c / 2 ^ 24 % 4) 3

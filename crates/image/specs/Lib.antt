@@ -1,3 +1,4 @@
+pub mod Bench
 pub mod Claims
 pub mod Fresh
 pub mod Layout

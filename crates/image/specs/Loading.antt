@@ -8,7 +8,7 @@ use lib.Dec.{leb, eqb}
 use Rattle.octets.specs.Choice.{if_then_else_}
 use Rattle.octets.specs.Runs.{joined, put}
 use Rattle.account.specs.Terms.{capacity}
-use Rattle.tables.specs.Rows.{accountOctets, linkOctets, accountIn, rowOctets}
+use Rattle.tables.specs.Rows.{Rows, accountOctets, linkOctets, accountIn, rowOctets}
 use Rattle.image.specs.Read.{accountFields, linkFields, refused, readImage}
 use Rattle.image.specs.declared.Loaded.{Loaded}
 
@@ -30,25 +30,25 @@ pub record Loading : Type 0 where
 abbrev pub loadingOf : Loaded → Runs → Loading
 loadingOf q r = record { answer = q; runs = r }
 
--- ---- what is written: the data of n accounts, their capacities, and the data of m links behind them
+-- ---- what is written: the data of n accounts, of m links behind them, and the accounts' capacities
 unfoldable pub accountRows : List ℕ → ℕ → List ℕ
 accountRows s n = joined (rowOctets accountOctets (accountFields s)) n
 
 unfoldable pub linkRows : List ℕ → ℕ → ℕ → List ℕ
 linkRows s n m = joined (rowOctets linkOctets (linkFields s n)) m
 
-abbrev pub fullCredit : List ℕ → ℕ → ℕ
-fullCredit s i = capacity (accountIn (accountFields s) i)
+abbrev pub fullCredit : Rows → ℕ → ℕ
+fullCredit a i = capacity (accountIn a i)
 
-unfoldable pub capacities : List ℕ → ℕ → List ℕ
-capacities s n = joined (λ i. fullCredit s i ∷ []) n
+unfoldable pub capacities : Rows → ℕ → List ℕ
+capacities a n = joined (λ i. fullCredit a i ∷ []) n
 
--- the runs begin with that; rows beyond keep what they had
+-- the runs begin with that, and are otherwise as they were
 unfoldable pub filled : List ℕ → ℕ → ℕ → Runs → Runs
 filled s n m r =
     runsOf
     (put (r .accounts) 0 (accountRows s n))
-    (put (r .credits) 0 (capacities s n))
+    (put (r .credits) 0 (capacities (accountFields s) n))
     (put (r .lasts) 0 (replicate n 0))
     (put (r .links) 0 (linkRows s n m))
 

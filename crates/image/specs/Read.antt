@@ -9,24 +9,24 @@ use Rattle.octets.specs.Numbers.{numberAt}
 use Rattle.tables.specs.Leading.{leading}
 use Rattle.tables.specs.Rows.{Rows, accountOctets, linkOctets}
 use Rattle.tables.specs.Rules.{accountGood, linkGood}
-use Rattle.image.specs.Layout.{headTag, accountTag, linkTag, endTag, edition, fieldHead, headOctets, fieldPlace, dataPlace, imageLength, maxAccounts, maxLinks, constantGood}
+use Rattle.image.specs.Layout.{headTag, accountTag, linkTag, endTag, edition, tagAndLength, headOctets, fieldPlace, dataPlace, imageLength, maxAccounts, maxLinks, editionPlace, constantOf, constantGood}
 use Rattle.image.specs.declared.Loaded.{Loaded}
 
 -- the checks of a field at a place, in their order: 20 fewer than 3 octets left, 21 its tag, 22 its length, 20 its data cut, 24 one
 -- field too many, 23 a value
 unfoldable pub fieldCode : List ℕ → ℕ → Bool → ℕ → Bool → Bool → ℕ
 fieldCode s at order size full good =
-    if not (leb (at + fieldHead) (length s)) then 20
+    if not (leb (at + tagAndLength) (length s)) then 20
     else if not order then 21
     else if not (eqb (numberAt 2 s (at + 1)) size) then 22
-    else if not (leb (at + fieldHead + size) (length s)) then 20
+    else if not (leb (at + tagAndLength + size) (length s)) then 20
     else if full then 24
     else if not good then 23
     else 0
 
 -- ---- the head: its edition, and the constant field
 unfoldable pub headGood : List ℕ → Bool
-headGood s = eqb (getD s 3 0) edition && constantGood (numberAt 4 s 4)
+headGood s = eqb (getD s editionPlace 0) edition && constantGood (constantOf s)
 
 unfoldable pub headCode : List ℕ → ℕ
 headCode s = fieldCode s 0 (eqb (getD s 0 0) headTag) headOctets false (headGood s)
@@ -35,7 +35,7 @@ headCode s = fieldCode s 0 (eqb (getD s 0 0) headTag) headOctets false (headGood
 
 -- the data of fields of one size, the first at a place, as rows; those of the accounts, and of the links behind n accounts
 abbrev pub fieldRows : List ℕ → ℕ → ℕ → Rows
-fieldRows s first size = record { octets = s; first = first; step = fieldHead + size }
+fieldRows s first size = record { octets = s; first = first; step = tagAndLength + size }
 
 abbrev pub accountFields : List ℕ → Rows
 accountFields s = fieldRows s (dataPlace 0 0) accountOctets
@@ -94,7 +94,7 @@ unfoldable pub readEnd : List ℕ → ℕ → ℕ → Loaded
 readEnd s n m =
     if not (eqb (nextCode s n m) 0) then refused (nextCode s n m) (fieldPlace n m)
     else if ltb (imageLength n m) (length s) then refused 25 (imageLength n m)
-    else record { code = 0; offset = length s; constant = numberAt 4 s 4; accounts = n; links = m }
+    else record { code = 0; offset = length s; constant = constantOf s; accounts = n; links = m }
 
 unfoldable pub readImage : List ℕ → Loaded
 readImage s =

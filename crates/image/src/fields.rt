@@ -20,7 +20,7 @@ const TOO_MANY: u8 = 24;
 fn field_code(image: &[u8], at: usize, order: bool, size: usize, full: bool, good: bool) -> u8
     ensures { λ r. ⌜ r ≡ fieldCode (now (image .entry)) at order size full good ⌝ }
 {
-    if !octets::has_room(image.len(), at, layout::FIELD_HEAD) {
+    if !octets::has_room(image.len(), at, layout::TAG_AND_LENGTH) {
         return CUT;
     }
     if !order {
@@ -29,7 +29,7 @@ fn field_code(image: &[u8], at: usize, order: bool, size: usize, full: bool, goo
     if octets::u16_at(image, at + 1) as usize != size {
         return WRONG_LENGTH;
     }
-    if !octets::has_room(image.len(), at + layout::FIELD_HEAD, size) {
+    if !octets::has_room(image.len(), at + layout::TAG_AND_LENGTH, size) {
         return CUT;
     }
     if full {

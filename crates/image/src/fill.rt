@@ -20,7 +20,7 @@ fn copy_rows(image: &[u8], first: usize, size: u8, n: u16, rows: &mut [u8])
     let start = octets::least(first, image.len());
     let mut i: u16 = 0;
     while i < n {
-        let at = start + (layout::FIELD_HEAD + wide) * i as usize;
+        let at = start + (layout::TAG_AND_LENGTH + wide) * i as usize;
         octets::copy(image, at, wide, rows, wide * i as usize);
         i += 1;
     }

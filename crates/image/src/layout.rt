@@ -13,16 +13,16 @@ pub const END_TAG: u8 = 9;
 
 pub const EDITION: u8 = 1;
 
-// Octets of a field before its data, of the head's data, and of the fields.
-pub const FIELD_HEAD: usize = 3;
+// Octets of a field's tag and length, of the head's data, and of whole fields.
+pub const TAG_AND_LENGTH: usize = 3;
 
 pub const HEAD_OCTETS: usize = 5;
 
-pub const HEAD_SIZE: usize = 8;
+pub const HEAD_SIZE: usize = TAG_AND_LENGTH + HEAD_OCTETS;
 
-pub const ACCOUNT_SIZE: usize = 9;
+pub const ACCOUNT_SIZE: usize = TAG_AND_LENGTH + tables::ACCOUNT_OCTETS;
 
-pub const LINK_SIZE: usize = 16;
+pub const LINK_SIZE: usize = TAG_AND_LENGTH + tables::LINK_OCTETS;
 
 // The limits.
 pub const MAX_ACCOUNTS: u16 = 64;
@@ -30,9 +30,9 @@ pub const MAX_ACCOUNTS: u16 = 64;
 pub const MAX_LINKS: u16 = 256;
 
 // The octet of the head's edition, and the first of its constant field.
-pub const EDITION_PLACE: usize = 3;
+pub const EDITION_PLACE: usize = TAG_AND_LENGTH;
 
-pub const CONSTANT_PLACE: usize = 4;
+pub const CONSTANT_PLACE: usize = EDITION_PLACE + 1;
 
 // The offset of the field behind so many accounts and links.
 pub fn field_place(accounts: u16, links: u16) -> usize
@@ -45,7 +45,7 @@ pub fn field_place(accounts: u16, links: u16) -> usize
 pub fn data_place(accounts: u16, links: u16) -> usize
     ensures { λ r. ⌜ r ≡ dataPlace accounts links ⌝ }
 {
-    HEAD_SIZE + ACCOUNT_SIZE * accounts as usize + LINK_SIZE * links as usize + FIELD_HEAD
+    HEAD_SIZE + ACCOUNT_SIZE * accounts as usize + LINK_SIZE * links as usize + TAG_AND_LENGTH
 }
 
 // Whether the two low bits of a constant field's first octet are set.

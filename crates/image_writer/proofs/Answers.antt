@@ -11,7 +11,7 @@ use Rattle.octets.specs.Runs.{put}
 use Rattle.octets.proofs.Tests.{split, both}
 use Rattle.tables.specs.Rows.{Config, accountOctets, linkOctets}
 use Rattle.image.specs.Layout.{maxAccounts, maxLinks, fieldPlace, imageLength, constantGood, imageOf}
-use Rattle.image_writer.specs.Writing.{countGood, countsGood, badAccount, badLink, told, valueAnswer, writeAnswer, writingOf, writing}
+use Rattle.image_writer.specs.Writing.{countGood, countsGood, badAccount, badLink, writtenOf, valueAnswer, writeAnswer, writingOf, writing}
 use Rattle.image_writer.specs.declared.Written.{Written}
 
 -- ---- one count
@@ -67,28 +67,28 @@ module _ (accounts : List ℕ) (n : ℕ) (links : List ℕ) (m : ℕ) where
 
 -- ---- the values
 module _ (g : Config) (r : Bool) (e : r ≡ constantGood (g .constant)) where
-  pub constant-bad : not r ≡ true → told 23 0 ≡ valueAnswer g
+  pub constant-bad : not r ≡ true → writtenOf 23 0 ≡ valueAnswer g
   unfolding valueAnswer
   constant-bad h = simp (← e, not-true r h)
 
   module _ (h : not r ≡ false) (x : ℕ) (f : x ≡ badAccount g) where
-    pub account-bad : x < g .accountCount → (at : ℕ) → at ≡ fieldPlace x 0 → told 23 at ≡ valueAnswer g
+    pub account-bad : x < g .accountCount → (at : ℕ) → at ≡ fieldPlace x 0 → writtenOf 23 at ≡ valueAnswer g
     unfolding valueAnswer
-    account-bad k at p = ap (told 23) (p ∙ ap (λ (y : ℕ). fieldPlace y 0) f) ∙ simp (← e, not-false r h, lt-ltb _ _ (rw f at k))
+    account-bad k at p = ap (writtenOf 23) (p ∙ ap (λ (y : ℕ). fieldPlace y 0) f) ∙ simp (← e, not-false r h, lt-ltb _ _ (rw f at k))
 
     module _ (k : g .accountCount ≤ x) (y : ℕ) (q : y ≡ badLink g) where
-      pub link-bad : y < g .linkCount → (at : ℕ) → at ≡ fieldPlace (g .accountCount) y → told 23 at ≡ valueAnswer g
+      pub link-bad : y < g .linkCount → (at : ℕ) → at ≡ fieldPlace (g .accountCount) y → writtenOf 23 at ≡ valueAnswer g
       unfolding valueAnswer
       link-bad l at p =
-          ap (told 23) (p ∙ ap (fieldPlace (g .accountCount)) q) ∙ simp (← e, not-false r h, le-ltb _ _ (rw f at k), lt-ltb _ _ (rw q at l))
+          ap (writtenOf 23) (p ∙ ap (fieldPlace (g .accountCount)) q) ∙ simp (← e, not-false r h, le-ltb _ _ (rw f at k), lt-ltb _ _ (rw q at l))
 
-      pub all-good : g .linkCount ≤ y → (at : ℕ) → at ≡ imageLength (g .accountCount) (g .linkCount) → told 0 at ≡ valueAnswer g
+      pub all-good : g .linkCount ≤ y → (at : ℕ) → at ≡ imageLength (g .accountCount) (g .linkCount) → writtenOf 0 at ≡ valueAnswer g
       unfolding valueAnswer
-      all-good l at p = ap (told 0) p ∙ simp (← e, not-false r h, le-ltb _ _ (rw f at k), le-ltb _ _ (rw q at l))
+      all-good l at p = ap (writtenOf 0) p ∙ simp (← e, not-false r h, le-ltb _ _ (rw f at k), le-ltb _ _ (rw q at l))
 
 -- ---- the answer
 module _ (g : Config) (room : ℕ) (r : Bool) (e : r ≡ countsGood (g .accounts) (g .accountCount) (g .links) (g .linkCount)) where
-  pub counts-bad : not r ≡ true → told 24 0 ≡ writeAnswer g room
+  pub counts-bad : not r ≡ true → writtenOf 24 0 ≡ writeAnswer g room
   unfolding writeAnswer
   counts-bad h = simp (← e, not-true r h)
 
@@ -101,7 +101,7 @@ module _ (g : Config) (room : ℕ) (r : Bool) (e : r ≡ countsGood (g .accounts
       fine : valueAnswer g .code ≡ 0
       fine = sym (ap (λ (w : Written). w .code) v) ∙ z
 
-      pub room-short : room < end → told 26 0 ≡ writeAnswer g room
+      pub room-short : room < end → writtenOf 26 0 ≡ writeAnswer g room
       unfolding writeAnswer
       room-short k = simp (← e, not-false r h, eq-eqb _ _ fine, lt-ltb _ _ (rw p at k))
 
@@ -112,11 +112,11 @@ module _ (g : Config) (room : ℕ) (r : Bool) (e : r ≡ countsGood (g .accounts
 -- ---- by cases of what writing answers
 module _ (g : Config) (P : Written → Type 0) where
   pub by-values :
-      (constantGood (g .constant) ≡ false → P (told 23 0))
-      → (badAccount g < g .accountCount → P (told 23 (fieldPlace (badAccount g) 0)))
-      → (badLink g < g .linkCount → P (told 23 (fieldPlace (g .accountCount) (badLink g))))
+      (constantGood (g .constant) ≡ false → P (writtenOf 23 0))
+      → (badAccount g < g .accountCount → P (writtenOf 23 (fieldPlace (badAccount g) 0)))
+      → (badLink g < g .linkCount → P (writtenOf 23 (fieldPlace (g .accountCount) (badLink g))))
       → (constantGood (g .constant) ≡ true → g .accountCount ≤ badAccount g → g .linkCount ≤ badLink g
-      → P (told 0 (imageLength (g .accountCount) (g .linkCount))))
+      → P (writtenOf 0 (imageLength (g .accountCount) (g .linkCount))))
       → P (valueAnswer g)
   unfolding valueAnswer
   by-values f h k l =
@@ -131,9 +131,9 @@ module _ (g : Config) (P : Written → Type 0) where
       (λ e. simp e (f e))
 
   pub by-writing : (room : ℕ)
-      → (countsGood (g .accounts) (g .accountCount) (g .links) (g .linkCount) ≡ false → P (told 24 0))
+      → (countsGood (g .accounts) (g .accountCount) (g .links) (g .linkCount) ≡ false → P (writtenOf 24 0))
       → (countsGood (g .accounts) (g .accountCount) (g .links) (g .linkCount) ≡ true → (valueAnswer g .code ≡ 0 → ⊥) → P (valueAnswer g))
-      → (valueAnswer g .code ≡ 0 → room < imageLength (g .accountCount) (g .linkCount) → P (told 26 0))
+      → (valueAnswer g .code ≡ 0 → room < imageLength (g .accountCount) (g .linkCount) → P (writtenOf 26 0))
       → (countsGood (g .accounts) (g .accountCount) (g .links) (g .linkCount) ≡ true → valueAnswer g .code ≡ 0
       → imageLength (g .accountCount) (g .linkCount) ≤ room → P (valueAnswer g))
       → P (writeAnswer g room)

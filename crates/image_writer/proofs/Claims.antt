@@ -1,5 +1,6 @@
 -- What holds of writing for any tables, counts and room. Assumes nothing.
 use Prim.Native.Nat.{ℕ, _≤_}
+use mathlib.Core.Bool.{true, false}
 use mathlib.Core.List.{List, [], _∷_, _++_, List·Memᴰ, List·Memᴰ·head, List·Memᴰ·tail}
 use mathlib.Core.Path.{_≡_, refl, sym, ap, _∙_}
 use native.Mathlib.Nat.{zero-add}
@@ -9,19 +10,21 @@ use lib.ListN.{length, drop}
 use Rattle.octets.specs.Choice.{if_then_else_}
 use Rattle.octets.specs.Runs.{put}
 use Rattle.octets.proofs.Runs.{put-fits}
-use Rattle.tables.specs.Rows.{Config}
-use Rattle.image.specs.Layout.{imageLength, imageOf}
-use Rattle.image_writer.specs.Writing.{told, Writing, writingOf, writing}
-use Rattle.image_writer.specs.Claims.{WriteCodes, RefusedWriteKeeps, WriteOffsets, WritesImage, ImageLength}
-use Rattle.image_writer.proofs.Answers.{by-values, by-writing}
+use Rattle.tables.specs.Rows.{Config, accountTable, linkTable}
+use Rattle.tables.specs.Rules.{accountGood, linkGood}
+use Rattle.tables.proofs.Leading.{leading-is}
+use Rattle.image.specs.Layout.{fieldPlace, imageLength, imageOf}
+use Rattle.image_writer.specs.Writing.{countsGood, badAccount, badLink, writtenOf, valueAnswer, writeAnswer, Writing, writingOf, writing}
+use Rattle.image_writer.specs.Claims.{FirstBadConstant, FirstBadAccount, FirstBadLink, WriteCodes, RefusedWriteKeeps, WriteOffsets, WritesImage, ImageLength}
+use Rattle.image_writer.proofs.Answers.{constant-bad, account-bad, link-bad, value-bad, by-values, by-writing, writing-refused}
 use Rattle.image_writer.proofs.Laying.{length-image}
 
 -- by cases of what writing answers and leaves
 by-write : (g : Config) (d : List ℕ) (P : Writing → Type 0)
-    → P (writingOf (told 24 0) d)
-    → ((at : ℕ) → P (writingOf (told 23 at) d))
-    → P (writingOf (told 26 0) d)
-    → (imageLength (g .accountCount) (g .linkCount) ≤ length d → P (writingOf (told 0 (imageLength (g .accountCount) (g .linkCount))) (put d 0 (imageOf g))))
+    → P (writingOf (writtenOf 24 0) d)
+    → ((at : ℕ) → P (writingOf (writtenOf 23 at) d))
+    → P (writingOf (writtenOf 26 0) d)
+    → (imageLength (g .accountCount) (g .linkCount) ≤ length d → P (writingOf (writtenOf 0 (imageLength (g .accountCount) (g .linkCount))) (put d 0 (imageOf g))))
     → P (writing g d)
 unfolding writing
 by-write g d P p24 p23 p26 p0 =
@@ -76,3 +79,29 @@ writes-image g d =
 
 pub image-length : ImageLength
 image-length g = length-image g
+
+-- ---- the first bad value
+module _ (g : Config) (d : List ℕ) (e : countsGood (g .accounts) (g .accountCount) (g .links) (g .linkCount) ≡ true) where
+  answered : (at : ℕ) → writtenOf 23 at ≡ valueAnswer g → writing g d .answer ≡ writtenOf 23 at
+  answered at v =
+      let q : writtenOf 23 at ≡ writeAnswer g (length d) = value-bad g (length d) true (sym e) refl (writtenOf 23 at) v (λ z. omega arith) in
+      sym (ap (λ (w : Writing). w .answer) (writing-refused g d (writtenOf 23 at) q (λ z. omega arith)))
+
+pub first-bad-constant : FirstBadConstant
+first-bad-constant g d e c = answered g d e 0 (constant-bad g false (sym c) refl)
+
+pub first-bad-account : FirstBadAccount
+unfolding badAccount
+first-bad-account g d e c i l before bad =
+    answered g d e (fieldPlace i 0)
+    (account-bad g true (sym c) refl i
+    (sym (leading-is (accountGood (accountTable (g .accounts))) i (g .accountCount) (omega arith) before (λ _. bad))) l _ refl)
+
+pub first-bad-link : FirstBadLink
+unfolding badAccount badLink
+first-bad-link g d e c all j l before bad =
+    answered g d e (fieldPlace (g .accountCount) j)
+    (link-bad g true (sym c) refl (g .accountCount)
+    (sym (leading-is (accountGood (accountTable (g .accounts))) (g .accountCount) (g .accountCount) (omega arith) all (λ h. absurd (omega arith))))
+    (omega arith) j
+    (sym (leading-is (linkGood (accountTable (g .accounts)) (linkTable (g .links)) (g .accountCount)) j (g .linkCount) (omega arith) before (λ _. bad))) l _ refl)

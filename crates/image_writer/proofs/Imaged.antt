@@ -11,7 +11,7 @@ use Rattle.octets.specs.Runs.{octetsAt, joined}
 use Rattle.octets.proofs.Numbers.{number-shift, number-octets, length-octets}
 use Rattle.octets.proofs.Parts.{length-part, getD-part, part-is, part-front, part-behind, part-join, part-whole, part-joined, joined-at, joined-same, octets-number}
 use Rattle.tables.specs.Rows.{Config, accountOctets, linkOctets}
-use Rattle.image.specs.Layout.{headTag, accountTag, linkTag, endTag, edition, fieldOf, imageOf, fieldHead, headSize, accountSize, linkSize, fieldPlace, imageLength}
+use Rattle.image.specs.Layout.{headTag, accountTag, linkTag, endTag, edition, fieldOf, imageOf, tagAndLength, headSize, accountSize, linkSize, fieldPlace, imageLength}
 use Rattle.image_writer.proofs.Laying.{length-field, length-fields, head-size, rowField, length-row-field}
 
 -- ---- where links stand
@@ -32,17 +32,17 @@ module _ (tag : ℕ) (bytes : List ℕ) where
       let a : 1 + k ≡ suc k = omega arith in
       rw (a, zero-add k) (List·getD-append (octetsOf 2 (length bytes)) bytes 0 k (omega arith))
 
-  field-data : (k : ℕ) → getD (fieldOf tag bytes) (fieldHead + k) 0 ≡ getD bytes k 0
+  field-data : (k : ℕ) → getD (fieldOf tag bytes) (tagAndLength + k) 0 ≡ getD bytes k 0
   unfolding fieldOf
   field-data k =
       let o = length-octets 2 (length bytes) in
-      let a : length (tag ∷ octetsOf 2 (length bytes)) + k ≡ fieldHead + k = omega arith in
+      let a : length (tag ∷ octetsOf 2 (length bytes)) + k ≡ tagAndLength + k = omega arith in
       ap (λ (i : ℕ). getD ((tag ∷ octetsOf 2 (length bytes)) ++ bytes) i 0) (sym a) ∙ getD-append-add (tag ∷ octetsOf 2 (length bytes)) bytes k 0
 
 -- a field that stands at a place: its tag, its length and its data are read there
-module _ (s : List ℕ) (at w tag : ℕ) (bytes : List ℕ) (l : length bytes ≡ w) (e : octetsAt (fieldHead + w) s at ≡ fieldOf tag bytes) where
-  octet : (k : ℕ) → k < fieldHead + w → getD s (at + k) 0 ≡ getD (fieldOf tag bytes) k 0
-  octet k h = sym (getD-part (fieldHead + w) s at k h) ∙ ap (λ (xs : List ℕ). getD xs k 0) e
+module _ (s : List ℕ) (at w tag : ℕ) (bytes : List ℕ) (l : length bytes ≡ w) (e : octetsAt (tagAndLength + w) s at ≡ fieldOf tag bytes) where
+  octet : (k : ℕ) → k < tagAndLength + w → getD s (at + k) 0 ≡ getD (fieldOf tag bytes) k 0
+  octet k h = sym (getD-part (tagAndLength + w) s at k h) ∙ ap (λ (xs : List ℕ). getD xs k 0) e
 
   pub tag-read : getD s at 0 ≡ tag
   tag-read = ap (λ (i : ℕ). getD s i 0) (sym (add-zero at)) ∙ octet 0 (omega arith) ∙ field-tag tag bytes
@@ -54,21 +54,21 @@ module _ (s : List ℕ) (at w tag : ℕ) (bytes : List ℕ) (l : length bytes �
       ∙ number-octets 2 (length bytes) (omega arith)
       ∙ l
 
-  pub data-read : octetsAt w s (at + fieldHead) ≡ bytes
+  pub data-read : octetsAt w s (at + tagAndLength) ≡ bytes
   data-read =
-      part-is w s (at + fieldHead) bytes l
-      (λ k b. ap (λ (i : ℕ). getD s i 0) (add-assoc at fieldHead k) ∙ octet (fieldHead + k) (omega arith) ∙ field-data tag bytes k)
+      part-is w s (at + tagAndLength) bytes l
+      (λ k b. ap (λ (i : ℕ). getD s i 0) (add-assoc at tagAndLength k) ∙ octet (tagAndLength + k) (omega arith) ∙ field-data tag bytes k)
 
 -- and back: a tag and a length before w octets make a field of them
 pub field-spelled : (s : List ℕ) (at w tag : ℕ) → ((i : ℕ) → getD s i 0 < 256) → getD s at 0 ≡ tag → numberAt 2 s (at + 1) ≡ w
-    → octetsAt (fieldHead + w) s at ≡ fieldOf tag (octetsAt w s (at + fieldHead))
+    → octetsAt (tagAndLength + w) s at ≡ fieldOf tag (octetsAt w s (at + tagAndLength))
 unfolding fieldOf
 field-spelled s at w tag o t n =
-    let two : octetsAt 2 s (at + 1) ≡ octetsOf 2 (length (octetsAt w s (at + fieldHead))) =
-    sym (octets-number 2 s (at + 1) o) ∙ ap (octetsOf 2) (n ∙ sym (length-part w s (at + fieldHead))) in
+    let two : octetsAt 2 s (at + 1) ≡ octetsOf 2 (length (octetsAt w s (at + tagAndLength))) =
+    sym (octets-number 2 s (at + 1) o) ∙ ap (octetsOf 2) (n ∙ sym (length-part w s (at + tagAndLength))) in
     let one : octetsAt 1 s at ≡ tag ∷ [] = part-is 1 s at (tag ∷ []) refl (λ k l. let z : k ≡ 0 = omega arith in rw (z, add-zero at) t) in
-    part-join fieldHead w s at
-    ∙ ap (λ (xs : List ℕ). xs ++ octetsAt w s (at + fieldHead)) (part-join 1 2 s at ∙ ap₂ _++_ one two)
+    part-join tagAndLength w s at
+    ∙ ap (λ (xs : List ℕ). xs ++ octetsAt w s (at + tagAndLength)) (part-join 1 2 s at ∙ ap₂ _++_ one two)
 
 -- ---- the fields of an image
 module _ (g : Config) where
@@ -135,19 +135,19 @@ module _ (g : Config) where
       ∙ part-behind linkSize (head ++ accounts) links (fieldPlace (g .accountCount) 0) (linkSize * j) a
       ∙ joined-at (rowField linkTag linkOctets (g .links)) linkSize (length-row-field linkTag linkOctets (g .links)) (g .linkCount) j h
 
-  pub image-end : octetsAt (fieldHead + 0) (imageOf g) (fieldPlace (g .accountCount) (g .linkCount)) ≡ fieldOf endTag []
+  pub image-end : octetsAt (tagAndLength + 0) (imageOf g) (fieldPlace (g .accountCount) (g .linkCount)) ≡ fieldOf endTag []
   unfolding imageOf
   image-end =
-      ap (octetsAt (fieldHead + 0) (head ++ accounts ++ links ++ fieldOf endTag [])) (sym (add-zero (fieldPlace (g .accountCount) (g .linkCount))))
-      ∙ part-behind (fieldHead + 0) (head ++ accounts ++ links) (fieldOf endTag []) (fieldPlace (g .accountCount) (g .linkCount)) 0 length-before-end
-      ∙ part-is (fieldHead + 0) (fieldOf endTag []) 0 (fieldOf endTag []) (length-field endTag []) (λ k l. ap (λ (i : ℕ). getD (fieldOf endTag []) i 0) (zero-add k))
+      ap (octetsAt (tagAndLength + 0) (head ++ accounts ++ links ++ fieldOf endTag [])) (sym (add-zero (fieldPlace (g .accountCount) (g .linkCount))))
+      ∙ part-behind (tagAndLength + 0) (head ++ accounts ++ links) (fieldOf endTag []) (fieldPlace (g .accountCount) (g .linkCount)) 0 length-before-end
+      ∙ part-is (tagAndLength + 0) (fieldOf endTag []) 0 (fieldOf endTag []) (length-field endTag []) (λ k l. ap (λ (i : ℕ). getD (fieldOf endTag []) i 0) (zero-add k))
 
 -- ---- octets in which every field is spelled are the image
 pub image-spelled : (g : Config) (s : List ℕ) → length s ≡ imageLength (g .accountCount) (g .linkCount)
     → octetsAt headSize s 0 ≡ fieldOf headTag (edition ∷ octetsOf 4 (g .constant))
     → ((i : ℕ) → i < g .accountCount → octetsAt accountSize s (fieldPlace i 0) ≡ rowField accountTag accountOctets (g .accounts) i)
     → ((j : ℕ) → j < g .linkCount → octetsAt linkSize s (fieldPlace (g .accountCount) j) ≡ rowField linkTag linkOctets (g .links) j)
-    → octetsAt fieldHead s (fieldPlace (g .accountCount) (g .linkCount)) ≡ fieldOf endTag []
+    → octetsAt tagAndLength s (fieldPlace (g .accountCount) (g .linkCount)) ≡ fieldOf endTag []
     → imageOf g ≡ s
 unfolding imageOf fieldPlace
 image-spelled g s l h a k e =
@@ -161,10 +161,10 @@ image-spelled g s l h a k e =
     part-joined linkSize m s (0 + (headSize + accountSize * n))
     ∙ joined-same (λ j. octetsAt linkSize s (0 + (headSize + accountSize * n) + linkSize * j)) (rowField linkTag linkOctets (g .links)) m
     (λ j b. let p : 0 + (headSize + accountSize * n) + linkSize * j ≡ headSize + accountSize * n + linkSize * j = omega arith in ap (octetsAt linkSize s) p ∙ k j b) in
-    let e1 : octetsAt fieldHead s (0 + (headSize + accountSize * n + linkSize * m)) ≡ fieldOf endTag [] = ap (octetsAt fieldHead s) (zero-add _) ∙ e in
+    let e1 : octetsAt tagAndLength s (0 + (headSize + accountSize * n + linkSize * m)) ≡ fieldOf endTag [] = ap (octetsAt tagAndLength s) (zero-add _) ∙ e in
     sym (sym (part-whole s)
     ∙ ap (λ (w : ℕ). octetsAt w s 0) l
-    ∙ part-join (headSize + accountSize * n + linkSize * m) fieldHead s 0
+    ∙ part-join (headSize + accountSize * n + linkSize * m) tagAndLength s 0
     ∙ ap₂ _++_
     (part-join (headSize + accountSize * n) (linkSize * m) s 0 ∙ ap₂ _++_ (part-join headSize (accountSize * n) s 0 ∙ ap₂ _++_ h a1) k1)
     e1)

@@ -14,26 +14,26 @@ use Rattle.octets.proofs.Numbers.{length-octets}
 use Rattle.octets.proofs.Parts.{length-part, part-none, length-joined}
 use Rattle.octets.proofs.Runs.{put-one, put-after, lay-next, length-laid}
 use Rattle.tables.specs.Rows.{Config, accountOctets, linkOctets, tableOf, rowOctets}
-use Rattle.image.specs.Layout.{headTag, accountTag, linkTag, endTag, edition, fieldOf, imageOf, fieldHead, headOctets, headSize, accountSize, linkSize, fieldPlace, imageLength}
+use Rattle.image.specs.Layout.{headTag, accountTag, linkTag, endTag, edition, fieldOf, imageOf, tagAndLength, headOctets, headSize, accountSize, linkSize, fieldPlace, imageLength}
 
 -- ---- one field
-pub length-field : (tag : ℕ) (bytes : List ℕ) → length (fieldOf tag bytes) ≡ fieldHead + length bytes
+pub length-field : (tag : ℕ) (bytes : List ℕ) → length (fieldOf tag bytes) ≡ tagAndLength + length bytes
 unfolding fieldOf
 length-field tag bytes =
     let l = length-octets 2 (length bytes) in
     let a = length-append (octetsOf 2 (length bytes)) bytes in
     omega arith
 
-pub field-laid : (d e f : List ℕ) (at tag size : ℕ) (bytes : List ℕ) → length bytes ≡ size → at + (fieldHead + size) ≤ length d
-    → e ≡ put (set d at tag) (at + 1) (octetsOf 2 size) → f ≡ put e (at + fieldHead) bytes → f ≡ put d at (fieldOf tag bytes)
+pub field-laid : (d e f : List ℕ) (at tag size : ℕ) (bytes : List ℕ) → length bytes ≡ size → at + (tagAndLength + size) ≤ length d
+    → e ≡ put (set d at tag) (at + 1) (octetsOf 2 size) → f ≡ put e (at + tagAndLength) bytes → f ≡ put d at (fieldOf tag bytes)
 unfolding fieldOf
 field-laid d e f at tag size bytes l h p q =
     let o : length (octetsOf 2 size) ≡ 2 = length-octets 2 size in
     let start : set d at tag ≡ put d at (tag ∷ []) = put-one d at tag (omega arith) in
     let e1 : e ≡ put d at (tag ∷ octetsOf 2 size) =
     p ∙ ap (λ (x : List ℕ). put x (at + 1) (octetsOf 2 size)) start ∙ put-after d at (tag ∷ []) (octetsOf 2 size) (at + 1) refl (omega arith) in
-    q ∙ ap (λ (x : List ℕ). put x (at + fieldHead) bytes) e1
-    ∙ put-after d at (tag ∷ octetsOf 2 size) bytes (at + fieldHead) (omega arith) (omega arith)
+    q ∙ ap (λ (x : List ℕ). put x (at + tagAndLength) bytes) e1
+    ∙ put-after d at (tag ∷ octetsOf 2 size) bytes (at + tagAndLength) (omega arith) (omega arith)
     ∙ ap (λ (n : ℕ). put d at (tag ∷ octetsOf 2 n ++ bytes)) (sym l)
 
 -- the head: its data are the edition and the constant field
@@ -57,27 +57,27 @@ head-laid d e f c h p q =
 abbrev pub rowField : ℕ → ℕ → List ℕ → ℕ → List ℕ
 rowField tag size rows i = fieldOf tag (rowOctets size (tableOf size rows) i)
 
-pub length-row-field : (tag size : ℕ) (rows : List ℕ) (i : ℕ) → length (rowField tag size rows i) ≡ fieldHead + size
+pub length-row-field : (tag size : ℕ) (rows : List ℕ) (i : ℕ) → length (rowField tag size rows i) ≡ tagAndLength + size
 length-row-field tag size rows i =
-    length-field tag (rowOctets size (tableOf size rows) i) ∙ ap (λ (n : ℕ). fieldHead + n) (length-part size rows (0 + size * i))
+    length-field tag (rowOctets size (tableOf size rows) i) ∙ ap (λ (n : ℕ). tagAndLength + n) (length-part size rows (0 + size * i))
 
-pub length-fields : (tag size : ℕ) (rows : List ℕ) (n : ℕ) → length (joined (rowField tag size rows) n) ≡ (fieldHead + size) * n
-length-fields tag size rows n = length-joined (rowField tag size rows) (fieldHead + size) (length-row-field tag size rows) n
+pub length-fields : (tag size : ℕ) (rows : List ℕ) (n : ℕ) → length (joined (rowField tag size rows) n) ≡ (tagAndLength + size) * n
+length-fields tag size rows n = length-joined (rowField tag size rows) (tagAndLength + size) (length-row-field tag size rows) n
 
-pub fields-grow : (d e : List ℕ) (at tag size : ℕ) (rows : List ℕ) (n i : ℕ) → at + (fieldHead + size) * n ≤ length d → i < n
-    → e ≡ put (put d at (joined (rowField tag size rows) i)) (at + (fieldHead + size) * i) (fieldOf tag (octetsAt size rows (size * i)))
+pub fields-grow : (d e : List ℕ) (at tag size : ℕ) (rows : List ℕ) (n i : ℕ) → at + (tagAndLength + size) * n ≤ length d → i < n
+    → e ≡ put (put d at (joined (rowField tag size rows) i)) (at + (tagAndLength + size) * i) (fieldOf tag (octetsAt size rows (size * i)))
     → e ≡ put d at (joined (rowField tag size rows) (suc i))
 fields-grow d e at tag size rows n i h l v =
     v
-    ∙ ap (λ (p : ℕ). put (put d at (joined (rowField tag size rows) i)) (at + (fieldHead + size) * i) (fieldOf tag (octetsAt size rows p))) (sym (zero-add (size * i)))
-    ∙ lay-next (rowField tag size rows) (fieldHead + size) (length-row-field tag size rows) d at n i h l
+    ∙ ap (λ (p : ℕ). put (put d at (joined (rowField tag size rows) i)) (at + (tagAndLength + size) * i) (fieldOf tag (octetsAt size rows p))) (sym (zero-add (size * i)))
+    ∙ lay-next (rowField tag size rows) (tagAndLength + size) (length-row-field tag size rows) d at n i h l
 
 -- where field i of n ends
 pub field-inside : (x i n : ℕ) → i < n → x * i + x ≤ x * n
 field-inside x i n l = rw (← mul-suc x i) (mul-le-mul-left x l)
 
 -- a size in one octet, a field's head beside it, times a count in two octets
-pub small-product : (x y : ℕ) → x < 2 ^ 8 + fieldHead → y < 2 ^ 16 → x * y < 2 ^ 25
+pub small-product : (x y : ℕ) → x < 2 ^ 8 + tagAndLength → y < 2 ^ 16 → x * y < 2 ^ 25
 small-product x y h k =
     let hx : x ≤ 258 = omega arith in
     let hy : y ≤ 65535 = omega arith in
@@ -110,7 +110,7 @@ image-laid g d e1 e2 e3 e4 p1 p2 p3 h q1 q2 q3 v1 v2 v3 v4 =
     let l1 : length head ≡ headSize = head-size (g .constant) in
     let l2 : length rows ≡ accountSize * g .accountCount = length-fields accountTag accountOctets (g .accounts) (g .accountCount) in
     let l3 : length ls ≡ linkSize * g .linkCount = length-fields linkTag linkOctets (g .links) (g .linkCount) in
-    let l4 : length end ≡ fieldHead = length-field endTag [] in
+    let l4 : length end ≡ tagAndLength = length-field endTag [] in
     let l12 : length (head ++ rows) ≡ length head + length rows = length-append head rows in
     let l123 : length (head ++ rows ++ ls) ≡ length (head ++ rows) + length ls = length-append (head ++ rows) ls in
     let w2 : e2 ≡ put d 0 (head ++ rows) =
@@ -122,8 +122,8 @@ image-laid g d e1 e2 e3 e4 p1 p2 p3 h q1 q2 q3 v1 v2 v3 v4 =
     ∙ put-after d 0 (head ++ rows ++ ls) end p3 (omega arith) (omega arith)
 
 -- a field of `size` octets of data
-pub length-sized : (tag size : ℕ) (s : List ℕ) (at : ℕ) → length (fieldOf tag (octetsAt size s at)) ≡ fieldHead + size
-length-sized tag size s at = length-field tag (octetsAt size s at) ∙ ap (λ (n : ℕ). fieldHead + n) (length-part size s at)
+pub length-sized : (tag size : ℕ) (s : List ℕ) (at : ℕ) → length (fieldOf tag (octetsAt size s at)) ≡ tagAndLength + size
+length-sized tag size s at = length-field tag (octetsAt size s at) ∙ ap (λ (n : ℕ). tagAndLength + n) (length-part size s at)
 
 -- the test of room for a length that is known
 pub room-of : (len x y : ℕ) (r : Bool) → x ≡ y → r ≡ leb (0 + x) len → not r ≡ false → y ≤ len

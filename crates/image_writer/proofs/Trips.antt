@@ -6,7 +6,8 @@ use mathlib.Core.Path.{_≡_, refl, sym, ap, ap₂, _∙_}
 use native.Mathlib.Nat.{zero-add}
 use native.Mathlib.Omega.{arith}
 use lib.Dec.{eqb}
-use lib.ListN.{length, getD, take}
+use lib.ListN.{length, getD, take, replicate}
+use lib.Seq.{take-length}
 use borrow.Author.Tests.{le-leb, eqb-true}
 use Rattle.octets.specs.Numbers.{numberAt, octetsOf}
 use Rattle.octets.specs.Runs.{octetsAt, joined, put}
@@ -19,9 +20,9 @@ use Rattle.tables.specs.Rules.{accountGood, linkGood}
 use Rattle.tables.proofs.Leading.{leading-before, leading-is}
 use Rattle.tables.proofs.Rows.{terms-part, link-part}
 use Rattle.tables.proofs.Rules.{account-good-same, link-good-same}
-use Rattle.image.specs.Layout.{headTag, accountTag, linkTag, endTag, edition, fieldHead, headOctets, headSize, accountSize, linkSize, fieldPlace, dataPlace, imageLength, maxAccounts, maxLinks, constantGood, fieldOf, imageOf}
+use Rattle.image.specs.Layout.{headTag, accountTag, linkTag, endTag, edition, tagAndLength, headOctets, headSize, accountSize, linkSize, fieldPlace, dataPlace, imageLength, maxAccounts, maxLinks, constantGood, fieldOf, imageOf}
 use Rattle.image.specs.Read.{headCode, accountFields, linkFields, tagAt, nextCode, goodField, readImage}
-use Rattle.image.specs.Loading.{Runs, loadingOf, accountRows, linkRows, capacities, filled, runsHold, loading}
+use Rattle.image.specs.Loading.{Runs, runsOf, loadingOf, accountRows, linkRows, capacities, filled, runsHold, loading}
 use Rattle.image.specs.Fresh.{Fresh, HoldsImage}
 use Rattle.image.specs.declared.Loaded.{Loaded}
 use Rattle.image.proofs.Checks.{account-place, link-place, octets-account, octets-link, octets-end}
@@ -29,8 +30,8 @@ use Rattle.image.proofs.Reading.{few-read}
 use Rattle.image.proofs.Accepted.{Accepted, accepted, head-passes, next-passes, good-tag, good-code, good-account, good-link, counted-account, counted-link, some-accounts, some-links, end-tag}
 use Rattle.image.proofs.Passing.{head-good-by, head-good-constant, head-good-edition, head-code-by, account-passes, link-passes, end-passes, reads-as}
 use Rattle.image.proofs.Fresh.{by-load, begins-put, rows-at, load-fresh, fresh-holds, held-long}
-use Rattle.image_writer.specs.Writing.{configOf, countsGood, countGood, badAccount, badLink, told, writeAnswer, writingOf, writing}
-use Rattle.image_writer.specs.Trips.{writtenImage, readBack, WriteRead, loadedTables, ReadWrite}
+use Rattle.image_writer.specs.Writing.{configOf, countsGood, countGood, badAccount, badLink, valueAnswer, writtenOf, writeAnswer, writingOf, writing}
+use Rattle.image_writer.specs.Trips.{AcceptedIsImage, ImageIsAccepted, writtenImage, readBack, WriteRead, loadedTables, ReadWrite}
 use Rattle.image_writer.specs.declared.Written.{Written}
 use Rattle.image_writer.proofs.Answers.{accounts-counted, links-counted, by-values, by-writing, all-good, room-enough, writing-done}
 use Rattle.image_writer.proofs.Imaged.{tag-read, length-read, data-read, field-spelled, image-head, image-account, image-link, image-end, image-spelled}
@@ -60,14 +61,6 @@ writing-answer g d =
     split (eqb (writeAnswer g (length d) .code) 0)
     (λ e. simp e)
     (λ e. simp e)
-
--- a load that answers 0 answers what reading does
-load-answer : (s : List ℕ) (r : Runs) → loading s r .answer .code ≡ 0 → loading s r .answer ≡ readImage s
-load-answer s r =
-    by-load s r (λ w. w .answer .code ≡ 0 → w .answer ≡ readImage s)
-    (λ d z. refl)
-    (λ y h z. refl)
-    (λ y h z. absurd (omega arith))
 
 -- the octets of fresh rows are the image's
 module _ (s : List ℕ) (r : Runs) (f : Fresh s r) where
@@ -114,6 +107,16 @@ accepts g room =
     (λ c a b o. record { counts = e; constant = c; accounts = accounts-all g a; links = links-all g b; fits = h })
     v)
 
+-- good counts and good values say so, for a room that is just long enough
+accepts-values : (g : Config) → countsGood (g .accounts) (g .accountCount) (g .links) (g .linkCount) ≡ true → valueAnswer g .code ≡ 0
+    → Accepts g (imageLength (g .accountCount) (g .linkCount))
+accepts-values g e =
+    by-values g (λ w. w .code ≡ 0 → Accepts g (imageLength (g .accountCount) (g .linkCount)))
+    (λ c o. absurd (omega arith))
+    (λ a o. absurd (omega arith))
+    (λ b o. absurd (omega arith))
+    (λ c a b o. record { counts = e; constant = c; accounts = accounts-all g a; links = links-all g b; fits = omega arith })
+
 -- and the way back: such tables are written
 all-accounts : (g : Config) (room : ℕ) → Accepts g room → badAccount g ≡ g .accountCount
 unfolding badAccount
@@ -125,16 +128,16 @@ all-links g room a =
     leading-is (linkGood (accountTable (g .accounts)) (linkTable (g .links)) (g .accountCount)) (g .linkCount) (g .linkCount) (omega arith) (a .links) (λ h. absurd (omega arith))
 
 module _ (g : Config) (d : List ℕ) (a : Accepts g (length d)) where
-  answers : told 0 (imageLength (g .accountCount) (g .linkCount)) ≡ writeAnswer g (length d)
+  answers : writtenOf 0 (imageLength (g .accountCount) (g .linkCount)) ≡ writeAnswer g (length d)
   answers =
       let x = all-accounts g (length d) a in
       let y = all-links g (length d) a in
-      room-enough g (length d) true (sym (a .counts)) refl (told 0 (imageLength (g .accountCount) (g .linkCount)))
+      room-enough g (length d) true (sym (a .counts)) refl (writtenOf 0 (imageLength (g .accountCount) (g .linkCount)))
       (all-good g true (sym (a .constant)) refl (badAccount g) refl (omega arith) (badLink g) refl (omega arith) _ refl)
       refl _ refl (a .fits)
 
-  pub writes : writing g d ≡ writingOf (told 0 (imageLength (g .accountCount) (g .linkCount))) (put d 0 (imageOf g))
-  writes = sym (writing-done g d (told 0 (imageLength (g .accountCount) (g .linkCount))) answers refl (put d 0 (imageOf g)) refl)
+  pub writes : writing g d ≡ writingOf (writtenOf 0 (imageLength (g .accountCount) (g .linkCount))) (put d 0 (imageOf g))
+  writes = sym (writing-done g d (writtenOf 0 (imageLength (g .accountCount) (g .linkCount))) answers refl (put d 0 (imageOf g)) refl)
 
 -- what was written is the image
 written-is : (g : Config) (d : List ℕ) → Accepts g (length d) → writtenImage g d ≡ imageOf g
@@ -157,11 +160,11 @@ module _ (g : Config) (room : ℕ) (a : Accepts g room) (c32 : g .constant < 2 ^
   m = g .linkCount
 
   -- the head
-  head-data : octetsAt headOctets s (0 + fieldHead) ≡ edition ∷ octetsOf 4 (g .constant)
+  head-data : octetsAt headOctets s (0 + tagAndLength) ≡ edition ∷ octetsOf 4 (g .constant)
   head-data = data-read s 0 headOctets headTag (edition ∷ octetsOf 4 (g .constant)) (length-head (g .constant)) (image-head g)
 
   head-octet : (k : ℕ) → k < headOctets → getD s (3 + k) 0 ≡ getD (edition ∷ octetsOf 4 (g .constant)) k 0
-  head-octet k l = sym (getD-part headOctets s (0 + fieldHead) k l) ∙ ap (λ (xs : List ℕ). getD xs k 0) head-data
+  head-octet k l = sym (getD-part headOctets s (0 + tagAndLength) k l) ∙ ap (λ (xs : List ℕ). getD xs k 0) head-data
 
   pub constant-back : numberAt 4 s 4 ≡ g .constant
   constant-back =
@@ -265,7 +268,7 @@ module _ (g : Config) (room : ℕ) (a : Accepts g room) (c32 : g .constant < 2 ^
       ∙ sym (part-joined linkOctets m (g .links) 0)
       ∙ part-take (linkOctets * m) (g .links) 0 (omega arith)
 
-  capacities-back : capacities s n ≡ joined (λ i. capacity (accountIn (accountTable (g .accounts)) i) ∷ []) n
+  capacities-back : capacities (accountFields s) n ≡ capacities (accountTable (g .accounts)) n
   unfolding capacities
   capacities-back =
       joined-same (λ i. capacity (accountIn (accountFields s) i) ∷ []) (λ i. capacity (accountIn (accountTable (g .accounts)) i) ∷ []) n
@@ -283,6 +286,9 @@ module _ (g : Config) (room : ℕ) (a : Accepts g room) (c32 : g .constant < 2 ^
       (λ d. absurd (d (ap (λ (q : Loaded). q .code) e)))
       (λ z h. rw e (ap (loadingOf (accepting (length s) (g .constant) n m)) (filled-back r)))
       (λ z h. absurd (false≢true (sym (rw e at h) ∙ t)))
+
+pub image-is-accepted : ImageIsAccepted
+image-is-accepted g c32 e v = image-reads g (imageLength (g .accountCount) (g .linkCount)) (accepts-values g e v) c32
 
 pub write-read : WriteRead
 write-read g d r c32 z t =
@@ -352,7 +358,7 @@ module _ (s : List ℕ) (o : (i : ℕ) → getD s i 0 < 256) (z : readImage s .c
       (next-passes s (q .accounts) j (good-code s linkTag (q .accounts) j w) .sized ∙ sym (octets-link (tagAt s (q .accounts) j) (λ y. omega arith) t))
       ∙ ap (fieldOf linkTag) (ap (octetsAt linkOctets s) (link-place (q .accounts) j) ∙ sym (link-octets s r f j l))
 
-  spelled-end : octetsAt fieldHead s (fieldPlace (q .accounts) (q .links)) ≡ fieldOf endTag []
+  spelled-end : octetsAt tagAndLength s (fieldPlace (q .accounts) (q .links)) ≡ fieldOf endTag []
   spelled-end =
       let t : tagAt s (q .accounts) (q .links) ≡ endTag = end-tag s (q .accounts) (q .links) (ok .accounts-are) (ok .links-are) (ok .end-code) in
       field-spelled s (fieldPlace (q .accounts) (q .links)) 0 endTag o t
@@ -362,14 +368,22 @@ module _ (s : List ℕ) (o : (i : ℕ) → getD s i 0 < 256) (z : readImage s .c
   pub image-again : imageOf g ≡ s
   image-again = image-spelled g s (ok .length-is) spelled-head spelled-account spelled-link spelled-end
 
+-- tables that hold what loading writes, and nothing beyond
+just : (s : List ℕ) → readImage s .code ≡ 0
+    → Fresh s (runsOf (accountRows s (readImage s .accounts)) (capacities (accountFields s) (readImage s .accounts)) (replicate (readImage s .accounts) 0) (linkRows s (readImage s .accounts) (readImage s .links)))
+just s z = record { accepted = z; accounts = take-length _; credits = take-length _; lasts = take-length _; links = take-length _ }
+
+pub accepted-is-image : AcceptedIsImage
+accepted-is-image s o z = image-again s o z _ (just s z)
+
 pub read-write : ReadWrite
 read-write s r d o z h =
-    let e : loading s r .answer ≡ readImage s = load-answer s r z in
+    let e : loading s r .answer ≡ readImage s = load-fresh s r z .0 in
     let y : readImage s .code ≡ 0 = sym (ap (λ (x : Loaded). x .code) e) ∙ z in
-    let f : Fresh s (loading s r .runs) = load-fresh s r z in
+    let f : Fresh s (loading s r .runs) = load-fresh s r z .1 in
     let l = accepted s y .length-is in
     let same : loadedTables s r ≡ g s o y (loading s r .runs) f =
     ap (λ (x : Loaded). configOf (x .constant) (loading s r .runs .accounts) (x .accounts) (loading s r .runs .links) (x .links)) e in
     ap (λ (x : Config). writing x d) same
     ∙ writes (g s o y (loading s r .runs) f) d (read-accepts s o y (loading s r .runs) f (length d) h)
-    ∙ ap₂ (λ (n : ℕ) (x : List ℕ). writingOf (told 0 n) (put d 0 x)) (sym l) (image-again s o y (loading s r .runs) f)
+    ∙ ap₂ (λ (n : ℕ) (x : List ℕ). writingOf (writtenOf 0 n) (put d 0 x)) (sym l) (image-again s o y (loading s r .runs) f)

@@ -1,12 +1,14 @@
 -- What holds of writing for any tables, counts and room whatsoever (document 01, "The configuration image", the writer); proved in
 -- proofs/Claims.antt.
-use Prim.Native.Nat.{ℕ}
+use Prim.Native.Nat.{ℕ, _<_}
+use mathlib.Core.Bool.{true, false}
 use mathlib.Core.List.{List, [], _∷_, _++_, List·Memᴰ}
 use mathlib.Core.Path.{_≡_}
 use lib.ListN.{length, drop}
-use Rattle.tables.specs.Rows.{Config}
-use Rattle.image.specs.Layout.{imageLength, imageOf}
-use Rattle.image_writer.specs.Writing.{writing}
+use Rattle.tables.specs.Rows.{Config, accountTable, linkTable}
+use Rattle.tables.specs.Rules.{accountGood, linkGood}
+use Rattle.image.specs.Layout.{fieldPlace, imageLength, constantGood, imageOf}
+use Rattle.image_writer.specs.Writing.{countsGood, writtenOf, writing}
 
 -- demand 1: the codes that writing can answer
 abbrev pub WriteCodes : Type 0
@@ -24,7 +26,28 @@ WriteOffsets =
     × (writing g d .answer .code ≡ 26 → writing g d .answer .offset ≡ 0)
     × (writing g d .answer .code ≡ 0 → writing g d .answer .offset ≡ length (imageOf g))
 
--- success changes only the octets of the image: they are the image, and behind them stands what stood there
+-- 23 with the first bad value: the constant field; else the first account; else, all accounts being good, the first link
+abbrev pub FirstBadConstant : Type 0
+FirstBadConstant =
+    (g : Config) (d : List ℕ) → countsGood (g .accounts) (g .accountCount) (g .links) (g .linkCount) ≡ true → constantGood (g .constant) ≡ false
+    → writing g d .answer ≡ writtenOf 23 0
+
+abbrev pub FirstBadAccount : Type 0
+FirstBadAccount =
+    (g : Config) (d : List ℕ) → countsGood (g .accounts) (g .accountCount) (g .links) (g .linkCount) ≡ true → constantGood (g .constant) ≡ true
+    → (i : ℕ) → i < g .accountCount → ((k : ℕ) → k < i → accountGood (accountTable (g .accounts)) k ≡ true) → accountGood (accountTable (g .accounts)) i ≡ false
+    → writing g d .answer ≡ writtenOf 23 (fieldPlace i 0)
+
+abbrev pub FirstBadLink : Type 0
+FirstBadLink =
+    (g : Config) (d : List ℕ) → countsGood (g .accounts) (g .accountCount) (g .links) (g .linkCount) ≡ true → constantGood (g .constant) ≡ true
+    → ((k : ℕ) → k < g .accountCount → accountGood (accountTable (g .accounts)) k ≡ true)
+    → (j : ℕ) → j < g .linkCount
+    → ((k : ℕ) → k < j → linkGood (accountTable (g .accounts)) (linkTable (g .links)) (g .accountCount) k ≡ true)
+    → linkGood (accountTable (g .accounts)) (linkTable (g .links)) (g .accountCount) j ≡ false
+    → writing g d .answer ≡ writtenOf 23 (fieldPlace (g .accountCount) j)
+
+-- after success the room holds the image, and behind it what stood there
 abbrev pub WritesImage : Type 0
 WritesImage =
     (g : Config) (d : List ℕ) → writing g d .answer .code ≡ 0

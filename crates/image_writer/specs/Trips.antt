@@ -3,15 +3,33 @@
 -- proofs/Trips.antt.
 use Prim.Native.Nat.{ℕ, _*_, _^_, _≤_, _<_}
 use mathlib.Core.Bool.{true}
-use mathlib.Core.List.{List, [], _∷_}
+use mathlib.Core.List.{List}
 use mathlib.Core.Path.{_≡_}
 use lib.ListN.{length, getD, take, replicate}
-use Rattle.octets.specs.Runs.{joined, put}
-use Rattle.account.specs.Terms.{capacity}
-use Rattle.tables.specs.Rows.{Config, accountOctets, linkOctets, accountTable, accountIn}
+use Rattle.octets.specs.Runs.{put}
+use Rattle.tables.specs.Rows.{Config, accountOctets, linkOctets, accountTable}
 use Rattle.image.specs.Layout.{imageOf}
-use Rattle.image.specs.Loading.{Runs, runsOf, Loading, loadingOf, longEnough, loading}
-use Rattle.image_writer.specs.Writing.{configOf, told, writingOf, writing}
+use Rattle.image.specs.Read.{readImage}
+use Rattle.image.specs.Loading.{Runs, runsOf, Loading, loadingOf, accountRows, linkRows, capacities, longEnough, loading}
+use Rattle.image_writer.specs.Writing.{configOf, countsGood, valueAnswer, writtenOf, writingOf, writing}
+
+-- ---- the octets that are accepted are the images of good tables, and no others
+
+-- the tables that accepted octets name
+abbrev pub tablesIn : List ℕ → Config
+tablesIn s =
+    configOf (readImage s .constant) (accountRows s (readImage s .accounts)) (readImage s .accounts)
+    (linkRows s (readImage s .accounts) (readImage s .links)) (readImage s .links)
+
+abbrev pub AcceptedIsImage : Type 0
+AcceptedIsImage = (s : List ℕ) → ((i : ℕ) → getD s i 0 < 256) → readImage s .code ≡ 0 → imageOf (tablesIn s) ≡ s
+
+-- good tables are those with neither a bad count nor a bad value
+abbrev pub ImageIsAccepted : Type 0
+ImageIsAccepted =
+    (g : Config) → g .constant < 2 ^ 32 → countsGood (g .accounts) (g .accountCount) (g .links) (g .linkCount) ≡ true → valueAnswer g .code ≡ 0
+    → readImage (imageOf g)
+    ≡ record { code = 0; offset = length (imageOf g); constant = g .constant; accounts = g .accountCount; links = g .linkCount }
 
 -- ---- write, then read
 
@@ -26,7 +44,7 @@ readBack g r =
     (record { code = 0; offset = length (imageOf g); constant = g .constant; accounts = g .accountCount; links = g .linkCount })
     (runsOf
     (put (r .accounts) 0 (take (accountOctets * g .accountCount) (g .accounts)))
-    (put (r .credits) 0 (joined (λ i. capacity (accountIn (accountTable (g .accounts)) i) ∷ []) (g .accountCount)))
+    (put (r .credits) 0 (capacities (accountTable (g .accounts)) (g .accountCount)))
     (put (r .lasts) 0 (replicate (g .accountCount) 0))
     (put (r .links) 0 (take (linkOctets * g .linkCount) (g .links))))
 
@@ -49,4 +67,4 @@ loadedTables s r =
 abbrev pub ReadWrite : Type 0
 ReadWrite =
     (s : List ℕ) (r : Runs) (d : List ℕ) → ((i : ℕ) → getD s i 0 < 256) → loading s r .answer .code ≡ 0 → length s ≤ length d
-    → writing (loadedTables s r) d ≡ writingOf (told 0 (length s)) (put d 0 s)
+    → writing (loadedTables s r) d ≡ writingOf (writtenOf 0 (length s)) (put d 0 s)

@@ -30,23 +30,23 @@ badAccount g = leading (accountGood (accountTable (g .accounts))) (g .accountCou
 unfoldable pub badLink : Config → ℕ
 badLink g = leading (linkGood (accountTable (g .accounts)) (linkTable (g .links)) (g .accountCount)) (g .linkCount)
 
-abbrev pub told : ℕ → ℕ → Written
-told code offset = record { code = code; offset = offset }
+abbrev pub writtenOf : ℕ → ℕ → Written
+writtenOf code offset = record { code = code; offset = offset }
 
 -- 23 with the offset that the first bad field would have, the constant field's first; else the length of the image
 unfoldable pub valueAnswer : Config → Written
 valueAnswer g =
-    if not (constantGood (g .constant)) then told 23 0
-    else if ltb (badAccount g) (g .accountCount) then told 23 (fieldPlace (badAccount g) 0)
-    else if ltb (badLink g) (g .linkCount) then told 23 (fieldPlace (g .accountCount) (badLink g))
-    else told 0 (imageLength (g .accountCount) (g .linkCount))
+    if not (constantGood (g .constant)) then writtenOf 23 0
+    else if ltb (badAccount g) (g .accountCount) then writtenOf 23 (fieldPlace (badAccount g) 0)
+    else if ltb (badLink g) (g .linkCount) then writtenOf 23 (fieldPlace (g .accountCount) (badLink g))
+    else writtenOf 0 (imageLength (g .accountCount) (g .linkCount))
 
 -- 24, then 23, then 26 for a room of this length
 unfoldable pub writeAnswer : Config → ℕ → Written
 writeAnswer g room =
-    if not (countsGood (g .accounts) (g .accountCount) (g .links) (g .linkCount)) then told 24 0
+    if not (countsGood (g .accounts) (g .accountCount) (g .links) (g .linkCount)) then writtenOf 24 0
     else if not (eqb (valueAnswer g .code) 0) then valueAnswer g
-    else if ltb room (imageLength (g .accountCount) (g .linkCount)) then told 26 0
+    else if ltb room (imageLength (g .accountCount) (g .linkCount)) then writtenOf 26 0
     else valueAnswer g
 
 -- an answer, and the room beside it

@@ -25,12 +25,12 @@ fn put_head(room: &mut [u8], constant: u32)
 fn put_field(room: &mut [u8], at: usize, tag: u8, rows: &[u8], from: usize, size: u8)
     ensures { λ r. ⌜ now (room .exit) ≡ put (now (room .entry)) at (fieldOf tag (octetsAt size (now (rows .entry)) from)) ⌝ }
 {
-    if !octets::has_room(room.len(), at, layout::FIELD_HEAD + size as usize) {
+    if !octets::has_room(room.len(), at, layout::TAG_AND_LENGTH + size as usize) {
         return;
     }
     room[at] = tag;
     octets::put_u16(room, at + 1, size as u16);
-    octets::copy(rows, from, size as usize, room, at + layout::FIELD_HEAD);
+    octets::copy(rows, from, size as usize, room, at + layout::TAG_AND_LENGTH);
 }
 
 // The fields of the first n rows of `size` octets, from a place on.
@@ -38,7 +38,7 @@ fn put_fields(room: &mut [u8], at: usize, tag: u8, rows: &[u8], size: u8, n: u16
     ensures { λ r. ⌜ now (room .exit) ≡ put (now (room .entry)) at (joined (λ i. fieldOf tag (rowOctets size (tableOf size (now (rows .entry))) i)) n) ⌝ }
 {
     let wide = size as usize;
-    let step = layout::FIELD_HEAD + wide;
+    let step = layout::TAG_AND_LENGTH + wide;
     if !octets::has_room(room.len(), at, step * n as usize) {
         return;
     }

@@ -22,7 +22,7 @@ FindsNone =
     (links : List ℕ) (count x : ℕ) → found links count x ≡ Nowhere
     → (j : ℕ) → j < linksInUse links count → linkIn (linkTable links) j .number ≡ x → ⊥
 
--- a link of port 2, its mask, sizes and account; judged among 2 accounts, with Smax 200 for its own
+-- a link of number 7 with these values; judged among 2 accounts, Smax 200 for its own
 abbrev pub linkWith : ℕ → ℕ → ℕ → ℕ → ℕ → Link
 linkWith port mask smallest largest account =
     record { number = 7; port = port; mask = mask; smallest = smallest; largest = largest; account = account }

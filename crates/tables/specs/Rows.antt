@@ -79,7 +79,7 @@ rowOf links count x = leading (otherNumber links x) (linksInUse links count)
 unfoldable pub found : List ℕ → ℕ → ℕ → Found
 found links count x = if ltb (rowOf links count x) (linksInUse links count) then At (rowOf links count x) else Nowhere
 
--- the constant field, the tables and the counts in use: what an image is written from, and what a frame call is lent
+-- the constant field, the tables and the counts that go with them: what an image is written from, and what a frame call is lent
 pub record Config : Type 0 where
   pub constant : ℕ
   pub accounts : List ℕ

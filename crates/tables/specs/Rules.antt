@@ -1,5 +1,5 @@
 -- The value rules of an account row and of a link row (document 01, "Accounts and links" and "The configuration image"). Reading and
--- writing an image answer 23 by them, a frame call 10.
+-- writing an image answer 23 by `accountGood` and `linkGood`; code 10 of a frame call is about the same rows, whatever their order.
 use Prim.Native.Nat.{ℕ, _-_, _/_, _%_, _^_}
 use mathlib.Core.Bool.{Bool, true, not, _&&_}
 use lib.Dec.{ltb, leb, eqb}
@@ -29,10 +29,14 @@ linkSound l n smax = ltb (l .account) n && portsSound (l .port) (l .mask) && siz
 unfoldable pub accountGood : Rows → ℕ → Bool
 accountGood a i = inLimits (accountIn a i)
 
+-- row j of the links among n accounts: Smax is that of the row of its own account
+abbrev pub linkRowSound : Rows → Rows → ℕ → ℕ → Bool
+linkRowSound a l n j = linkSound (linkIn l j) n (accountIn a (linkIn l j .account) .smax)
+
 -- a link's number is above that of the row before it
 unfoldable pub numberRises : Rows → ℕ → Bool
 numberRises l j = if eqb j 0 then true else ltb (linkIn l (j - 1) .number) (linkIn l j .number)
 
--- the values of row j of the links behind n accounts
+-- the values of row j of the links, its number's rise with them
 unfoldable pub linkGood : Rows → Rows → ℕ → ℕ → Bool
-linkGood a l n j = numberRises l j && linkSound (linkIn l j) n (accountIn a (linkIn l j .account) .smax)
+linkGood a l n j = numberRises l j && linkRowSound a l n j

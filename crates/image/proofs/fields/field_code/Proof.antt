@@ -3,18 +3,18 @@ use Prim.Native.Nat.{_+_, _≤_}
 use native.Mathlib.Omega.{arith}
 use lib.ListN.{length}
 use Rattle.octets.proofs.Tests.{has-room, no-room}
-use Rattle.image.specs.Layout.{fieldHead}
+use Rattle.image.specs.Layout.{tagAndLength}
 use Rattle.image.proofs.Checks.{code-short, code-order, code-length, code-cut, code-full, code-good, code-bad}
 use borrow.Author.Needs.{needs}
 use Rattle.image.proofs.fields.field_code.Statement.{statement}
 use Rattle.image.proofs.fields.field_code.Tie as tie
 
 -- past the first test the tag and the length are there
-headed : (c : tie.Else1) → c .before .before .before .args .at + fieldHead ≤ length (c .before .before .before .args .image .now)
+headed : (c : tie.Else1) → c .before .before .before .args .at + tagAndLength ≤ length (c .before .before .before .args .image .now)
 headed c = has-room _ _ _ _ (c .before .has-room .ensures) (c .if1 .left)
 
 -- past the fourth the data are
-whole : (c : tie.Else4) → c .before .before .before .before .before .before .before .before .args .at + fieldHead + c .before .before .before .before .before .before .before .before .args .size ≤ length (c .before .before .before .before .before .before .before .before .args .image .now)
+whole : (c : tie.Else4) → c .before .before .before .before .before .before .before .before .args .at + tagAndLength + c .before .before .before .before .before .before .before .before .args .size ≤ length (c .before .before .before .before .before .before .before .before .args .image .now)
 whole c = has-room _ _ _ _ (c .before .has-room2 .ensures) (c .if4 .left)
 
 has-room-requires : tie.Need-has-room-requires

@@ -5,14 +5,14 @@ use lib.ListN.{length}
 use Rattle.octets.proofs.Parts.{length-part}
 use Rattle.octets.proofs.Runs.{put-refused, length-laid}
 use Rattle.octets.proofs.Tests.{has-room}
-use Rattle.image.specs.Layout.{fieldHead}
+use Rattle.image.specs.Layout.{tagAndLength}
 use Rattle.image_writer.proofs.Laying.{length-sized, field-laid}
 use borrow.Author.Needs.{needs}
 use Rattle.image_writer.proofs.lay.put_field.Statement.{statement}
 use Rattle.image_writer.proofs.lay.put_field.Tie as tie
 
 -- past the test there is room
-room : (c : tie.Else1) → c .before .before .before .before .args .at + (fieldHead + c .before .before .before .before .args .size) ≤ length (c .before .before .before .before .args .room .now)
+room : (c : tie.Else1) → c .before .before .before .before .args .at + (tagAndLength + c .before .before .before .before .args .size) ≤ length (c .before .before .before .before .args .room .now)
 room c = has-room _ _ _ _ (c .before .has-room .ensures) (c .if1 .left)
 
 add-has-room : tie.Need-add-has-room

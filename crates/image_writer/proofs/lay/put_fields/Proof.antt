@@ -8,7 +8,7 @@ use lib.ListN.{length}
 use Rattle.octets.specs.Runs.{joined, put}
 use Rattle.octets.proofs.Runs.{put-refused, lay-none, length-laid}
 use Rattle.octets.proofs.Tests.{has-room}
-use Rattle.image.specs.Layout.{fieldHead}
+use Rattle.image.specs.Layout.{tagAndLength}
 use Rattle.image_writer.proofs.Laying.{rowField, length-row-field, length-fields, fields-grow, field-inside, small-product}
 use borrow.Author.Needs.{needs}
 use Rattle.image_writer.proofs.lay.put_fields.Statement.{statement}
@@ -21,14 +21,14 @@ abbrev μ-loop : tie.MeasureT-loop
 μ-loop room₀ at tag rows size n wide step i₀ room i = n - i
 
 -- past the test there is room for all fields
-enough : (c : tie.Else1 Inv-loop μ-loop) → c .before .before .before .before .args .at + (fieldHead + c .before .before .before .before .args .size) * c .before .before .before .before .args .n ≤ length (c .before .before .before .before .args .room .now)
+enough : (c : tie.Else1 Inv-loop μ-loop) → c .before .before .before .before .args .at + (tagAndLength + c .before .before .before .before .args .size) * c .before .before .before .before .args .n ≤ length (c .before .before .before .before .args .room .now)
 enough c = has-room _ _ _ _ (c .before .has-room .ensures) (c .if1 .left)
 
 add-step : tie.Need-add-step Inv-loop μ-loop
 add-step c = search needs
 
 mul-has-room : tie.Need-mul-has-room Inv-loop μ-loop
-mul-has-room c = let p = small-product (fieldHead + c .before .before .args .size) (c .before .before .args .n) (omega arith) (omega arith) in omega arith
+mul-has-room c = let p = small-product (tagAndLength + c .before .before .args .size) (c .before .before .args .n) (omega arith) (omega arith) in omega arith
 
 has-room-requires : tie.Need-has-room-requires Inv-loop μ-loop
 has-room-requires c κs = search needs
@@ -43,13 +43,13 @@ cast-put-field : tie.Need-cast-put-field Inv-loop μ-loop
 cast-put-field c = search needs
 
 mul-put-field : tie.Need-mul-put-field Inv-loop μ-loop
-mul-put-field c = let p = small-product (fieldHead + c .before .before .before .before .before .before .before .args .size) (c .before .before .loop .i) (omega arith) (omega arith) in omega arith
+mul-put-field c = let p = small-product (tagAndLength + c .before .before .before .before .before .before .before .args .size) (c .before .before .loop .i) (omega arith) (omega arith) in omega arith
 
 add-put-field : tie.Need-add-put-field Inv-loop μ-loop
 add-put-field c =
     let a = c .before .before .before .before .before .before .before .args in
     let h = enough (c .before .before .before) in
-    let k = field-inside (fieldHead + a .size) (c .before .before .loop .i) (a .n) (c .before .loop-test .taken) in
+    let k = field-inside (tagAndLength + a .size) (c .before .before .loop .i) (a .n) (c .before .loop-test .taken) in
     omega arith
 
 cast-put-field-2 : tie.Need-cast-put-field-2 Inv-loop μ-loop
