@@ -2,11 +2,9 @@
 ghost use mathlib.Core.Path.{_≡_};
 ghost use Rattle.image.specs.Read.{accountCount, linkCount, refused, readEnd};
 use super::Loaded;
+use super::codes;
 use super::fields;
 use super::layout;
-
-// Code 25.
-const SURPLUS: u8 = 25;
 
 // The accounts behind the head, up to the first field that is none or is refused.
 pub(crate) fn count_accounts(image: &[u8]) -> u16
@@ -59,7 +57,7 @@ pub(crate) fn read_end(image: &[u8], accounts: u16, links: u16) -> Loaded
     }
     let end = layout::data_place(accounts, links);
     if end < image.len() {
-        return refused(SURPLUS, end);
+        return refused(codes::SURPLUS, end);
     }
     Loaded {
         code: 0,

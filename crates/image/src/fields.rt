@@ -1,41 +1,29 @@
 // The checks of one field of an image.
 ghost use mathlib.Core.Path.{_≡_};
-ghost use Rattle.tables.specs.Rows.{accountIn};
-ghost use Rattle.tables.specs.Rules.{accountGood, numberRises, linkGood};
-ghost use Rattle.image.specs.Read.{fieldCode, headGood, headCode, accountFields, linkFields, inOrder, dataOctets, isFull, valuesGood, nextCode, goodField};
+ghost use Rattle.image.specs.Read.{fieldCode, headGood, headCode, inOrder, dataOctets, isFull, valuesGood, nextCode, goodField};
+use super::codes;
 use super::layout;
-
-// Codes 20 to 24.
-const CUT: u8 = 20;
-
-const WRONG_TAG: u8 = 21;
-
-const WRONG_LENGTH: u8 = 22;
-
-const BAD_VALUE: u8 = 23;
-
-const TOO_MANY: u8 = 24;
 
 // The code of the field at a place, or 0: of the octets left, the tag, the length, the data, the limit and the values.
 fn field_code(image: &[u8], at: usize, order: bool, size: usize, full: bool, good: bool) -> u8
     ensures { λ r. ⌜ r ≡ fieldCode (now (image .entry)) at order size full good ⌝ }
 {
     if !octets::has_room(image.len(), at, layout::TAG_AND_LENGTH) {
-        return CUT;
+        return codes::CUT;
     }
     if !order {
-        return WRONG_TAG;
+        return codes::WRONG_TAG;
     }
     if octets::u16_at(image, at + 1) as usize != size {
-        return WRONG_LENGTH;
+        return codes::WRONG_LENGTH;
     }
     if !octets::has_room(image.len(), at + layout::TAG_AND_LENGTH, size) {
-        return CUT;
+        return codes::CUT;
     }
     if full {
-        return TOO_MANY;
+        return codes::BAD_COUNT;
     }
-    if good { 0 } else { BAD_VALUE }
+    if good { 0 } else { codes::BAD_VALUE }
 }
 
 // Whether the head has the edition and a constant field of the right form.
@@ -106,53 +94,22 @@ fn is_full(tag: u8, accounts: u16, links: u16) -> bool
     false
 }
 
-// Whether the values of an account keep their limits.
-fn account_good(image: &[u8], i: u16) -> bool
-    ensures { λ r. ⌜ r ≡ accountGood (accountFields (now (image .entry))) i ⌝ }
-{
-    let a = tables::account_at(image, layout::data_place(i, 0), 0, 0);
-    a.in_limits()
-}
-
-// Whether a link's number is above the one before it.
-fn number_rises(image: &[u8], accounts: u16, j: u16) -> bool
-    ensures { λ r. ⌜ r ≡ numberRises (linkFields (now (image .entry)) accounts) j ⌝ }
-{
-    if j == 0 {
-        return true;
-    }
-    let before = octets::u16_at(image, layout::data_place(accounts, j - 1));
-    before < octets::u16_at(image, layout::data_place(accounts, j))
-}
-
-// Whether the values of a link keep their rules; Smax is that of its account in the image.
-fn link_good(image: &[u8], accounts: u16, j: u16) -> bool
-    ensures { λ r. ⌜ r ≡ linkGood (accountFields (now (image .entry))) (linkFields (now (image .entry)) accounts) accounts j ⌝ }
-{
-    if !number_rises(image, accounts, j) {
-        return false;
-    }
-    let l = tables::link_at(image, layout::data_place(accounts, j));
-    let smax = smax_of(image, l.account);
-    l.sound(accounts as usize, smax)
-}
-
-// Smax of an account in the image.
-fn smax_of(image: &[u8], i: u16) -> u16
-    ensures { λ r. ⌜ r ≡ accountIn (accountFields (now (image .entry))) i .smax ⌝ }
-{
-    octets::u16_at(image, layout::data_place(i, 0))
-}
-
 // Whether the values of the field behind so many accounts and links keep their rules.
 fn values_good(image: &[u8], tag: u8, accounts: u16, links: u16) -> bool
     ensures { λ r. ⌜ r ≡ valuesGood (now (image .entry)) tag accounts links ⌝ }
 {
     if tag == layout::ACCOUNT_TAG {
-        return account_good(image, accounts);
+        return tables::account_good(image, layout::account_fields(), accounts);
     }
     if tag == layout::LINK_TAG {
-        return link_good(image, accounts, links);
+        return tables::link_good(
+            image,
+            layout::account_fields(),
+            accounts,
+            image,
+            layout::link_fields(accounts),
+            links,
+        );
     }
     true
 }

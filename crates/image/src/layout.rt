@@ -1,6 +1,8 @@
 // The layout of a configuration image: tags, sizes, limits, and where a field stands.
 ghost use mathlib.Core.Path.{_≡_};
-ghost use Rattle.image.specs.Layout.{fieldPlace, dataPlace, constantGood};
+ghost use Rattle.image.specs.Layout.{accountSize, linkSize, fieldPlace, dataPlace, constantGood};
+ghost use Rattle.tables.specs.Rows.{spacing};
+use tables::Spacing;
 
 // The tags, and the only edition.
 pub const HEAD_TAG: u8 = 1;
@@ -46,6 +48,26 @@ pub fn data_place(accounts: u16, links: u16) -> usize
     ensures { λ r. ⌜ r ≡ dataPlace accounts links ⌝ }
 {
     HEAD_SIZE + ACCOUNT_SIZE * accounts as usize + LINK_SIZE * links as usize + TAG_AND_LENGTH
+}
+
+// Where the data of the accounts stand.
+pub fn account_fields() -> Spacing
+    ensures { λ r. ⌜ r ≡ spacing (dataPlace 0 0) accountSize ⌝ }
+{
+    Spacing {
+        first: data_place(0, 0),
+        step: ACCOUNT_SIZE as u8,
+    }
+}
+
+// Where the data of the links behind so many accounts stand.
+pub fn link_fields(accounts: u16) -> Spacing
+    ensures { λ r. ⌜ r ≡ spacing (dataPlace accounts 0) linkSize ⌝ }
+{
+    Spacing {
+        first: data_place(accounts, 0),
+        step: LINK_SIZE as u8,
+    }
 }
 
 // Whether the two low bits of a constant field's first octet are set.

@@ -3,14 +3,12 @@ ghost use mathlib.Core.Path.{_≡_};
 ghost use Rattle.image.specs.Read.{readImage};
 ghost use Rattle.image.specs.Loading.{runsHold, loadAnswer, runsOf, loadingOf, loading};
 
+pub mod codes;
 mod count;
 mod fields;
 mod fill;
 pub mod layout;
 pub mod reader;
-
-// Code 26.
-const NO_ROOM: u8 = 26;
 
 // What reading or loading an image answers: the code, the offset that it speaks of, and on success the constant field
 // and the counts of accounts and links.
@@ -69,7 +67,7 @@ fn load_answer(image: &[u8], accounts: usize, credits: usize, lasts: usize, link
     ) {
         return answer;
     }
-    count::refused(NO_ROOM, image.len())
+    count::refused(codes::NO_ROOM, image.len())
 }
 
 // Loads an image into lent tables: rows of accounts, credits, last times, rows of links. After any code but 0 all of them

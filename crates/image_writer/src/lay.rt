@@ -87,6 +87,7 @@ pub(crate) fn put_image(
         tables::LINK_OCTETS as u8,
         m,
     );
+    // The end has no data, so the rows lent here are not read.
     put_field(
         room,
         layout::field_place(n, m),

@@ -5,12 +5,8 @@ ghost use Rattle.image_writer.specs.Writing.{configOf, countGood, counts
 mod lay;
 mod values;
 
+use image::codes;
 use image::layout;
-
-// Codes 24 and 26.
-const BAD_COUNT: u8 = 24;
-
-const NO_ROOM: u8 = 26;
 
 // What writing answers: the code, and the length of the image or the offset that a bad field would have had.
 pub struct Written {
@@ -60,7 +56,7 @@ fn write_answer(
 {
     if !counts_good(accounts, n, links, m) {
         return Written {
-            code: BAD_COUNT,
+            code: codes::BAD_COUNT,
             offset: 0,
         };
     }
@@ -70,7 +66,7 @@ fn write_answer(
     }
     if room < layout::data_place(n as u16, m as u16) {
         return Written {
-            code: NO_ROOM,
+            code: codes::NO_ROOM,
             offset: 0,
         };
     }

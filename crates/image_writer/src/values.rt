@@ -1,51 +1,31 @@
 // The checks of the values that an image is written from.
 ghost use mathlib.Core.Path.{_≡_};
-ghost use Rattle.tables.specs.Rows.{accountIn, accountTable, linkTable};
-ghost use Rattle.tables.specs.Rules.{accountGood, numberRises, linkGood};
+ghost use Rattle.tables.specs.Rows.{accountOctets, linkOctets, spacing, accountTable, linkTable};
+ghost use Rattle.tables.specs.Rules.{accountGood, linkGood};
 ghost use Rattle.tables.specs.Leading.{leading};
 ghost use Rattle.image_writer.specs.Writing.{configOf, valueAnswer};
 use super::Written;
+use image::codes;
 use image::layout;
+use tables::Spacing;
 
-// Code 23.
-const BAD_VALUE: u8 = 23;
-
-// Whether the values of an account row keep their limits.
-fn account_good(accounts: &[u8], i: u16) -> bool
-    ensures { λ r. ⌜ r ≡ accountGood (accountTable (now (accounts .entry))) i ⌝ }
+// Rows of accounts and of links that touch.
+fn account_rows() -> Spacing
+    ensures { λ r. ⌜ r ≡ spacing 0 accountOctets ⌝ }
 {
-    let a = tables::account_at(accounts, tables::ACCOUNT_OCTETS * i as usize, 0, 0);
-    a.in_limits()
-}
-
-// Whether a link row's number is above the one before it.
-fn number_rises(links: &[u8], j: u16) -> bool
-    ensures { λ r. ⌜ r ≡ numberRises (linkTable (now (links .entry))) j ⌝ }
-{
-    if j == 0 {
-        return true;
+    Spacing {
+        first: 0,
+        step: tables::ACCOUNT_OCTETS as u8,
     }
-    let before = octets::u16_at(links, tables::LINK_OCTETS * (j - 1) as usize);
-    before < octets::u16_at(links, tables::LINK_OCTETS * j as usize)
 }
 
-// Smax of an account row.
-fn smax_of(accounts: &[u8], i: u16) -> u16
-    ensures { λ r. ⌜ r ≡ accountIn (accountTable (now (accounts .entry))) i .smax ⌝ }
+fn link_rows() -> Spacing
+    ensures { λ r. ⌜ r ≡ spacing 0 linkOctets ⌝ }
 {
-    octets::u16_at(accounts, tables::ACCOUNT_OCTETS * i as usize)
-}
-
-// Whether the values of a link row keep their rules; Smax is that of its account's row.
-fn link_good(accounts: &[u8], n: u16, links: &[u8], j: u16) -> bool
-    ensures { λ r. ⌜ r ≡ linkGood (accountTable (now (accounts .entry))) (linkTable (now (links .entry))) n j ⌝ }
-{
-    if !number_rises(links, j) {
-        return false;
+    Spacing {
+        first: 0,
+        step: tables::LINK_OCTETS as u8,
     }
-    let l = tables::link_at(links, tables::LINK_OCTETS * j as usize);
-    let smax = smax_of(accounts, l.account);
-    l.sound(n as usize, smax)
 }
 
 // The first of n account rows with a bad value, n where none has.
@@ -54,7 +34,7 @@ fn bad_account(accounts: &[u8], n: u16) -> u16
 {
     let mut i: u16 = 0;
     while i < n {
-        if !account_good(accounts, i) {
+        if !tables::account_good(accounts, account_rows(), i) {
             return i;
         }
         i += 1;
@@ -68,7 +48,7 @@ fn bad_link(accounts: &[u8], n: u16, links: &[u8], m: u16) -> u16
 {
     let mut j: u16 = 0;
     while j < m {
-        if !link_good(accounts, n, links, j) {
+        if !tables::link_good(accounts, account_rows(), n, links, link_rows(), j) {
             return j;
         }
         j += 1;
@@ -82,21 +62,21 @@ pub(crate) fn value_answer(constant: u32, accounts: &[u8], n: u16, links: &[u8],
 {
     if !layout::constant_good(constant) {
         return Written {
-            code: BAD_VALUE,
+            code: codes::BAD_VALUE,
             offset: 0,
         };
     }
     let account = bad_account(accounts, n);
     if account < n {
         return Written {
-            code: BAD_VALUE,
+            code: codes::BAD_VALUE,
             offset: layout::field_place(account, 0),
         };
     }
     let link = bad_link(accounts, n, links, m);
     if link < m {
         return Written {
-            code: BAD_VALUE,
+            code: codes::BAD_VALUE,
             offset: layout::field_place(n, link),
         };
     }

@@ -1,9 +1,9 @@
 -- Laws of rows: reading past the end, the same octets at two places, and the search for a number. Assumes nothing.
-use Prim.Native.Nat.{ℕ, suc, _+_, _*_, _/_, _≤_, _<_, min}
+use Prim.Native.Nat.{ℕ, suc, _+_, _*_, _/_, _^_, _≤_, _<_, min}
 use mathlib.Core.Bool.{not}
 use mathlib.Core.List.{List}
 use mathlib.Core.Path.{_≡_, sym, ap, _∙_}
-use native.Mathlib.Nat.{zero-add, add-assoc, min-le-right, div-mul-le-self, mul-comm}
+use native.Mathlib.Nat.{mul-le-mul, zero-add, add-assoc, min-le-right, div-mul-le-self, mul-comm}
 use native.Mathlib.Omega.{arith}
 use lib.ListN.{length, getD}
 use borrow.Author.Tests.{lt-ltb, le-ltb, eq-eqb, ne-eqb}
@@ -93,3 +93,28 @@ terms-part s t a b e = terms-same s t a b (part-octet accountOctets s t a b e)
 
 pub link-part : (s t : List ℕ) (a b : ℕ) → octetsAt linkOctets s a ≡ octetsAt linkOctets t b → linkAt s a ≡ linkAt t b
 link-part s t a b e = link-same s t a b (part-octet linkOctets s t a b e)
+
+-- ---- row i, read from a first place that is cut to the run's length
+module _ (s : List ℕ) (first x at : ℕ) (e : at ≡ min first (length s) + x) where
+  near : (k : ℕ) → getD s (at + k) 0 ≡ getD s (first + x + k) 0
+  near k =
+      ap (λ (i : ℕ). getD s i 0) (ap (λ (i : ℕ). i + k) e ∙ add-assoc (min first (length s)) x k)
+      ∙ getD-clamped s first (x + k)
+      ∙ ap (λ (i : ℕ). getD s i 0) (sym (add-assoc first x k))
+
+  pub terms-near : termsAt s at ≡ termsAt s (first + x)
+  terms-near = terms-same s s at (first + x) (λ k l. near k)
+
+  pub link-near : linkAt s at ≡ linkAt s (first + x)
+  link-near = link-same s s at (first + x) (λ k l. near k)
+
+  pub number-near : (w : ℕ) → numberAt w s at ≡ numberAt w s (first + x)
+  number-near w = number-shift w s s at (first + x) (λ k l. near k)
+
+-- a distance in one octet times an index in two
+pub small-step : (x y : ℕ) → x < 2 ^ 8 → y < 2 ^ 16 → x * y < 2 ^ 24
+small-step x y h k =
+    let hx : x ≤ 255 = omega arith in
+    let hy : y ≤ 65535 = omega arith in
+    let p : x * y ≤ 255 * 65535 = mul-le-mul hx hy in
+    omega arith

@@ -1,16 +1,18 @@
 -- Laws of the value rules, test by test as the code makes them, and over rows with the same octets. Assumes nothing.
-use Prim.Native.Nat.{ℕ, _-_, _/_, _%_, _^_, _≤_, _<_}
+use Prim.Native.Nat.{ℕ, min, _+_, _*_, _-_, _/_, _%_, _^_, _≤_, _<_}
 use mathlib.Core.Bool.{Bool, true, false, not, _&&_}
 use mathlib.Core.Path.{_≡_, sym, ap, ap₂, _∙_}
 use lib.Dec.{ltb, leb, eqb}
 use borrow.Author.Tests.{lt-ltb, le-ltb, ltb-true, ltb-false, le-leb, lt-leb, eq-eqb, ne-eqb, not-true, not-false}
 use Rattle.octets.proofs.Tests.{split, both}
 use Rattle.frame.specs.Limits.{smallestFrame}
+use lib.ListN.{length}
 use Rattle.octets.specs.Numbers.{numberAt}
 use Rattle.account.specs.Terms.{Terms, inLimits}
 use Rattle.tables.specs.Rows.{Rows, rowPlace, termsAt, linkAt, accountIn, linkIn}
 use Rattle.tables.specs.Rules.{portCount, portsSound, sizesSound, linkSound, accountGood, numberRises, linkGood}
 use Rattle.tables.specs.declared.Link.{Link}
+use Rattle.tables.proofs.Rows.{terms-near, link-near, number-near}
 
 -- ---- ports
 module _ (port mask : ℕ) where
@@ -86,37 +88,40 @@ link-good-same a b l m n j h e f =
     rw e (sound-same (linkIn m j) n _ _ (λ k. ap (λ (p : Terms). p .smax) (h (linkIn m j .account) k))) in
     ap₂ _&&_ (rises-same l m j e f) g
 
--- ---- rows read at their places
-module _ (a : Rows) (i at : ℕ) (e : at ≡ rowPlace a i) where
+-- ---- rows read at their places: the octets from `at` on are those of the row
+module _ (a : Rows) (i at : ℕ) (e : at ≡ min (a .first) (length (a .octets)) + a .step * i) where
   pub account-row : (p : Terms) (r : Bool) → p ≡ termsAt (a .octets) at → r ≡ inLimits p → r ≡ accountGood a i
   unfolding accountGood
-  account-row p r f g = g ∙ ap inLimits (f ∙ ap (termsAt (a .octets)) e)
+  account-row p r f g = g ∙ ap inLimits (f ∙ terms-near (a .octets) (a .first) (a .step * i) at e)
 
   pub smax-row : (x : ℕ) → x ≡ numberAt 2 (a .octets) at → x ≡ accountIn a i .smax
   unfolding termsAt
-  smax-row x f = f ∙ ap (numberAt 2 (a .octets)) e
+  smax-row x f = f ∙ number-near (a .octets) (a .first) (a .step * i) at e 2
 
 module _ (l : Rows) (j : ℕ) where
   pub rises-first : j ≡ 0 → true ≡ numberRises l j
   unfolding numberRises
   rises-first e = simp (eq-eqb _ _ e)
 
-  pub rises-later : (j ≡ 0 → ⊥) → (a b x y : ℕ) → a ≡ rowPlace l (j - 1) → x ≡ numberAt 2 (l .octets) a → b ≡ rowPlace l j → y ≡ numberAt 2 (l .octets) b
+  pub rises-later : (j ≡ 0 → ⊥) → (a b x y : ℕ)
+      → a ≡ min (l .first) (length (l .octets)) + l .step * (j - 1) → x ≡ numberAt 2 (l .octets) a
+      → b ≡ min (l .first) (length (l .octets)) + l .step * j → y ≡ numberAt 2 (l .octets) b
       → ltb x y ≡ numberRises l j
   unfolding numberRises linkAt
   rises-later d a b x y e f g h =
-      ap₂ ltb (f ∙ ap (numberAt 2 (l .octets)) e) (h ∙ ap (numberAt 2 (l .octets)) g) ∙ simp (ne-eqb _ _ d)
+      ap₂ ltb (f ∙ number-near (l .octets) (l .first) (l .step * (j - 1)) a e 2) (h ∙ number-near (l .octets) (l .first) (l .step * j) b g 2)
+      ∙ simp (ne-eqb _ _ d)
 
 module _ (a l : Rows) (n j : ℕ) (r : Bool) (e : r ≡ numberRises l j) where
   pub link-falls : not r ≡ true → false ≡ linkGood a l n j
   unfolding linkGood
   link-falls h = simp (← e, not-true r h)
 
-  pub link-row : not r ≡ false → (at : ℕ) (k : Link) (x : ℕ) (z : Bool) → at ≡ rowPlace l j → k ≡ linkAt (l .octets) at
+  pub link-row : not r ≡ false → (at : ℕ) (k : Link) (x : ℕ) (z : Bool) → at ≡ min (l .first) (length (l .octets)) + l .step * j → k ≡ linkAt (l .octets) at
       → x ≡ accountIn a (k .account) .smax → z ≡ linkSound k n x → z ≡ linkGood a l n j
   unfolding linkGood
   link-row h at k x z f g u v =
-      let m : k ≡ linkIn l j = g ∙ ap (linkAt (l .octets)) f in
+      let m : k ≡ linkIn l j = g ∙ link-near (l .octets) (l .first) (l .step * j) at f in
       v ∙ ap (linkSound k n) u
       ∙ ap (λ (b : Link). linkSound b n (accountIn a (b .account) .smax)) m
       ∙ simp (← e, not-false r h)

@@ -13,6 +13,7 @@ use Rattle.tables.specs.Leading.{leading}
 use Rattle.tables.specs.declared.Found.{Found}
 use Rattle.tables.specs.declared.Found.the-variants.{At, Nowhere}
 use Rattle.tables.specs.declared.Link.{Link}
+use Rattle.tables.specs.declared.Spacing.{Spacing}
 
 -- the account whose octets start at a place: Smax (2), k (1), J (2), mode (1)
 abbrev pub accountOctets : ℕ
@@ -41,6 +42,12 @@ pub record Rows : Type 0 where
   pub octets : List ℕ
   pub first : ℕ
   pub step : ℕ
+
+abbrev pub spacing : ℕ → ℕ → Spacing
+spacing first step = record { first = first; step = step }
+
+abbrev pub rowsBy : List ℕ → Spacing → Rows
+rowsBy s p = record { octets = s; first = p .first; step = p .step }
 
 abbrev pub rowPlace : Rows → ℕ → ℕ
 rowPlace r i = r .first + r .step * i

@@ -1,9 +1,11 @@
 // The tables that a switch is lent: rows of 6 octets an account and 13 a link, in the order of the image's data.
 // Decoding a row, the value rules of a link, and the search for a link's number.
 ghost use mathlib.Core.Path.{_≡_};
+ghost use Prim.Native.Nat.{_+_, _*_, min};
+ghost use lib.ListN.{length};
 ghost use Rattle.account.specs.Account.{accountOf};
-ghost use Rattle.tables.specs.Rows.{termsAt, linkAt, found};
-ghost use Rattle.tables.specs.Rules.{portsSound, sizesSound, linkSound};
+ghost use Rattle.tables.specs.Rows.{termsAt, linkAt, rowsBy, accountIn, found};
+ghost use Rattle.tables.specs.Rules.{portsSound, sizesSound, linkSound, accountGood, numberRises, linkGood};
 use account::Account;
 
 // Octets of a row.
@@ -22,6 +24,12 @@ pub struct Link {
     pub smallest: u16,
     pub largest: u16,
     pub account: u16,
+}
+
+// Where the rows of a run stand: the place of the first, and how far apart they are.
+pub struct Spacing {
+    pub first: usize,
+    pub step: u8,
 }
 
 // Where a link's number was found.
@@ -60,8 +68,15 @@ pub fn link_at(rows: &[u8], at: usize) -> Link
     }
 }
 
+// The place of row i; a first place past the end is cut to the end, where all octets are 0 too.
+fn row_place(run: &[u8], rows: Spacing, i: u16) -> usize
+    ensures { λ r. ⌜ r ≡ min (rows .first) (length (now (run .entry))) + rows .step * i ⌝ }
+{
+    octets::least(rows.first, run.len()) + rows.step as usize * i as usize
+}
+
 // Whether a port is an input port and a mask names some output port, but not the input port.
-pub fn ports_sound(port: u8, mask: u32) -> bool
+fn ports_sound(port: u8, mask: u32) -> bool
     ensures { λ r. ⌜ r ≡ portsSound port mask ⌝ }
 {
     if PORT_COUNT <= port {
@@ -74,7 +89,7 @@ pub fn ports_sound(port: u8, mask: u32) -> bool
 }
 
 // Whether frame sizes rise from the smallest frame to Smax.
-pub fn sizes_sound(smallest: u16, largest: u16, smax: u16) -> bool
+fn sizes_sound(smallest: u16, largest: u16, smax: u16) -> bool
     ensures { λ r. ⌜ r ≡ sizesSound smallest largest smax ⌝ }
 {
     if (smallest as usize) < frame::SMALLEST_FRAME {
@@ -99,6 +114,51 @@ impl Link {
         }
         sizes_sound(self.smallest, self.largest, smax)
     }
+}
+
+// Whether the values of row i of the accounts keep their limits.
+pub fn account_good(run: &[u8], rows: Spacing, i: u16) -> bool
+    ensures { λ r. ⌜ r ≡ accountGood (rowsBy (now (run .entry)) rows) i ⌝ }
+{
+    let a = account_at(run, row_place(run, rows, i), 0, 0);
+    a.in_limits()
+}
+
+// Smax of row i of the accounts.
+fn smax_of(run: &[u8], rows: Spacing, i: u16) -> u16
+    ensures { λ r. ⌜ r ≡ accountIn (rowsBy (now (run .entry)) rows) i .smax ⌝ }
+{
+    octets::u16_at(run, row_place(run, rows, i))
+}
+
+// Whether the number in row j of the links is above the one before it.
+fn number_rises(run: &[u8], rows: Spacing, j: u16) -> bool
+    ensures { λ r. ⌜ r ≡ numberRises (rowsBy (now (run .entry)) rows) j ⌝ }
+{
+    if j == 0 {
+        return true;
+    }
+    let before = octets::u16_at(run, row_place(run, rows, j - 1));
+    before < octets::u16_at(run, row_place(run, rows, j))
+}
+
+// Whether the values of row j of the links keep their rules among n accounts. Smax is that of the link's own account.
+pub fn link_good(
+    accounts: &[u8],
+    account_rows: Spacing,
+    n: u16,
+    links: &[u8],
+    link_rows: Spacing,
+    j: u16,
+) -> bool
+    ensures { λ r. ⌜ r ≡ linkGood (rowsBy (now (accounts .entry)) «account_rows») (rowsBy (now (links .entry)) «link_rows») n j ⌝ }
+{
+    if !number_rises(links, link_rows, j) {
+        return false;
+    }
+    let l = link_at(links, row_place(links, link_rows, j));
+    let smax = smax_of(accounts, account_rows, l.account);
+    l.sound(n as usize, smax)
 }
 
 // The first of the rows in use that has the number. A count larger than the rows lent is read as those.

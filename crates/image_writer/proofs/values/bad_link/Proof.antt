@@ -1,11 +1,13 @@
 -- `bad_link`: row by row. The loop's invariant: all rows before this one are well. Assumes nothing.
 use Prim.Native.Nat.{_-_, _≤_}
-use mathlib.Core.Path.{_≡_}
+use mathlib.Core.Bool.{Bool}
+use mathlib.Core.Path.{_≡_, ap₂, _∙_}
 use native.Mathlib.Numerals.{add-one}
 use native.Mathlib.Omega.{arith}
 use Rattle.tables.specs.Leading.{leading}
-use Rattle.tables.specs.Rows.{accountTable, linkTable}
+use Rattle.tables.specs.Rows.{rowsBy, accountTable, linkTable}
 use Rattle.tables.specs.Rules.{linkGood}
+use Rattle.tables.specs.declared.Spacing.{Spacing}
 use Rattle.tables.proofs.Leading.{leading-zero, count-stops, count-goes-on, count-full}
 use borrow.Author.Needs.{needs}
 use Rattle.image_writer.proofs.values.bad_link.Statement.{statement}
@@ -17,14 +19,27 @@ Inv-loop accounts n links m j₀ j = (j ≤ m) × (leading (linkGood (accountTab
 abbrev μ-loop : tie.MeasureT-loop
 μ-loop accounts n links m j₀ j = m - j
 
+-- the row that is looked at
+judged : (c : tie.After-link-good Inv-loop μ-loop) → c .link-good .result ≡ linkGood (accountTable (c .before .before .before .before .before .before .before .args .accounts .now)) (linkTable (c .before .before .before .before .before .before .before .args .links .now)) (c .before .before .before .before .before .before .before .args .n) (c .before .before .before .before .loop .j)
+judged c =
+    let a = c .before .before .before .before .before .before .before .args in
+    c .link-good .ensures
+    ∙ ap₂ (λ (p q : Spacing). linkGood (rowsBy (a .accounts .now) p) (rowsBy (a .links .now) q) (a .n) (c .before .before .before .before .loop .j)) (c .before .before .account-rows .ensures) (c .before .link-rows .ensures)
+
 loop-holds : tie.Need-loop-holds Inv-loop μ-loop
 loop-holds c = (omega arith, leading-zero (linkGood (accountTable (c .before .before .args .accounts .now)) (linkTable (c .before .before .args .links .now)) (c .before .before .args .n)))
+
+account-rows-requires : tie.Need-account-rows-requires Inv-loop μ-loop
+account-rows-requires c κs = search needs
+
+link-rows-requires : tie.Need-link-rows-requires Inv-loop μ-loop
+link-rows-requires c κs = search needs
 
 link-good-requires : tie.Need-link-good-requires Inv-loop μ-loop
 link-good-requires c κs = search needs
 
 returns : tie.Need-returns Inv-loop μ-loop
-returns c = count-stops (linkGood (accountTable (c .before .before .before .before .before .before .args .accounts .now)) (linkTable (c .before .before .before .before .before .before .args .links .now)) (c .before .before .before .before .before .before .args .n)) _ (c .before .before .before .loop .inv .1) _ (c .before .link-good .ensures) _ (c .before .before .loop-test .taken) (c .if1 .taken)
+returns c = count-stops (linkGood (accountTable (c .before .before .before .before .before .before .before .before .args .accounts .now)) (linkTable (c .before .before .before .before .before .before .before .before .args .links .now)) (c .before .before .before .before .before .before .before .before .args .n)) _ (c .before .before .before .before .before .loop .inv .1) _ (judged (c .before)) _ (c .before .before .before .before .loop-test .taken) (c .if1 .taken)
 
 add-j : tie.Need-add-j Inv-loop μ-loop
 add-j c = omega arith
@@ -35,7 +50,7 @@ loop-less c = omega arith
 loop-again : tie.Need-loop-again Inv-loop μ-loop
 loop-again c = (
   omega arith,
-  rw (add-one (c .before .before .before .loop .j)) (count-goes-on (linkGood (accountTable (c .before .before .before .before .before .before .args .accounts .now)) (linkTable (c .before .before .before .before .before .before .args .links .now)) (c .before .before .before .before .before .before .args .n)) _ (c .before .before .before .loop .inv .1) _ (c .before .link-good .ensures) (c .if1 .left)),
+  rw (add-one (c .before .before .before .before .before .loop .j)) (count-goes-on (linkGood (accountTable (c .before .before .before .before .before .before .before .before .args .accounts .now)) (linkTable (c .before .before .before .before .before .before .before .before .args .links .now)) (c .before .before .before .before .before .before .before .before .args .n)) _ (c .before .before .before .before .before .loop .inv .1) _ (judged (c .before)) (c .if1 .left)),
 )
 
 returns-2 : tie.Need-returns-2 Inv-loop μ-loop
@@ -48,6 +63,8 @@ bad-link-spec =
     Inv-loop
     μ-loop
     loop-holds
+    account-rows-requires
+    link-rows-requires
     link-good-requires
     returns
     add-j

@@ -1,11 +1,9 @@
 -- `link_good`: the number, then the other values. Assumes nothing.
-use mathlib.Core.Path.{_∙_}
+use Rattle.tables.specs.Rows.{rowsBy}
 use Rattle.tables.proofs.Rules.{link-falls, link-row}
-use Rattle.image.specs.Read.{accountFields, linkFields}
-use Rattle.image.proofs.Checks.{link-place}
 use borrow.Author.Needs.{needs}
-use Rattle.image.proofs.fields.link_good.Statement.{statement}
-use Rattle.image.proofs.fields.link_good.Tie as tie
+use Rattle.tables.proofs.link_good.Statement.{statement}
+use Rattle.tables.proofs.link_good.Tie as tie
 
 number-rises-requires : tie.Need-number-rises-requires
 number-rises-requires c κs = search needs
@@ -13,8 +11,8 @@ number-rises-requires c κs = search needs
 returns : tie.Need-returns
 returns c = link-falls _ _ _ _ _ (c .before .number-rises .ensures) (c .if1 .taken)
 
-data-place-requires : tie.Need-data-place-requires
-data-place-requires c κs = search needs
+row-place-requires : tie.Need-row-place-requires
+row-place-requires c κs = search needs
 
 link-at-requires : tie.Need-link-at-requires
 link-at-requires c κs = search needs
@@ -26,7 +24,7 @@ sound-requires : tie.Need-sound-requires
 sound-requires c κs = search needs
 
 returns-2 : tie.Need-returns-2
-returns-2 c = link-row (accountFields _) (linkFields _ _) _ _ _ (c .before .before .before .before .before .number-rises .ensures) (c .before .before .before .before .if1 .left) _ _ _ _ (c .before .before .before .data-place .ensures ∙ link-place _ _) (c .before .before .link-at .ensures) (c .before .smax-of .ensures) (c .sound .ensures)
+returns-2 c = link-row (rowsBy _ _) (rowsBy _ _) _ _ _ (c .before .before .before .before .before .number-rises .ensures) (c .before .before .before .before .if1 .left) _ _ _ _ (c .before .before .before .row-place .ensures) (c .before .before .link-at .ensures) (c .before .smax-of .ensures) (c .sound .ensures)
 
 pub link-good-spec : {M : Type 1} → statement M
 link-good-spec =
@@ -34,7 +32,7 @@ link-good-spec =
     (tie.spec
     number-rises-requires
     returns
-    data-place-requires
+    row-place-requires
     link-at-requires
     smax-of-requires
     sound-requires
