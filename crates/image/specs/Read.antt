@@ -12,8 +12,8 @@ use Rattle.tables.specs.Rules.{accountGood, linkGood}
 use Rattle.image.specs.Layout.{headTag, accountTag, linkTag, endTag, edition, tagAndLength, headOctets, fieldPlace, dataPlace, imageLength, maxAccounts, maxLinks, editionPlace, constantOf, constantGood}
 use Rattle.image.specs.declared.Loaded.{Loaded}
 
--- the checks of a field at a place, in their order: 20 fewer than 3 octets left, 21 its tag, 22 its length, 20 its data cut, 24 one
--- field too many, 23 a value
+-- the checks of a field at a place, in document 01's order: 20 without room for tag and length, 21 by the tag, 22 by the length, 20
+-- without room for the data, 24 for one field too many, 23 for a value
 unfoldable pub fieldCode : List ℕ → ℕ → Bool → ℕ → Bool → Bool → ℕ
 fieldCode s at order size full good =
     if not (leb (at + tagAndLength) (length s)) then 20

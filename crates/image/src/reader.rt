@@ -1,4 +1,4 @@
-// The reader holds an image and its place in it. Its functions are proved by hand.
+// An image together with a place in it. These functions are proved by hand.
 ghost use mathlib.Core.Path.{_≡_};
 ghost use Rattle.image.specs.Loading.{runsOf, loadingOf, loading};
 use crate::Loaded;

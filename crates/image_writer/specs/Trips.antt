@@ -1,6 +1,5 @@
--- Demand 2: an image that is written reads back as the same tables, and one that is read is written again octet for octet. Both
--- are stated over the layout, through the very definitions that the contracts of `load` and `write` cite; proved in
--- proofs/Trips.antt.
+-- Demand 2: the round trips, both ways, over the layout and through the very definitions that the contracts of `load` and `write`
+-- cite; proved in proofs/Trips.antt.
 use Prim.Native.Nat.{ℕ, _*_, _^_, _≤_, _<_}
 use mathlib.Core.Bool.{true}
 use mathlib.Core.List.{List}

@@ -16,7 +16,7 @@ pub const LINK_OCTETS: usize = 13;
 // Ports of a switch.
 const PORT_COUNT: u8 = 32;
 
-// A virtual link: number, input port, mask of output ports (bit p for port p), frame sizes, account.
+// A virtual link: number, input port, mask of output ports (the low bit is port 0), frame sizes, account.
 pub struct Link {
     pub number: u16,
     pub port: u8,
