@@ -20,6 +20,20 @@ pub(crate) fn three(a: u64, b: u64, c: u64) {
     number(c);
 }
 
+fn octet(x: u8) {
+    number(x as u64);
+}
+
+// Words, then each octet of a run.
+pub(crate) fn octets(words: &[u8], run: &[u8]) {
+    text(words);
+    let mut i = 0;
+    while i < run.len() {
+        octet(run[i]);
+        i += 1;
+    }
+}
+
 pub(crate) fn end() {
     text(b"\n");
 }
