@@ -56,7 +56,7 @@ fn put_fields(room: &mut [u8], at: usize, tag: u8, rows: &[u8], size: u8, n: u16
     }
 }
 
-// The whole image.
+// The whole image. The end has no data, so of the rows that are lent for it nothing is read.
 pub(crate) fn put_image(
     constant: u32,
     accounts: &[u8],
@@ -87,7 +87,6 @@ pub(crate) fn put_image(
         tables::LINK_OCTETS as u8,
         m,
     );
-    // The end has no data, so the rows lent here are not read.
     put_field(
         room,
         layout::field_place(n, m),
