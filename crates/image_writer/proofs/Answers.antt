@@ -169,3 +169,11 @@ module _ (g : Config) (d : List ℕ) (q : Written) (e : q ≡ writeAnswer g (len
   pub writing-done : q .code ≡ 0 → (x : List ℕ) → x ≡ put d 0 (imageOf g) → writingOf q x ≡ writing g d
   unfolding writing
   writing-done z x v = ap₂ writingOf e v ∙ simp (eq-eqb _ _ (sym (ap (λ (w : Written). w .code) e) ∙ z))
+
+-- the answer stands beside the room, whatever it is
+pub writing-answer : (g : Config) (d : List ℕ) → writing g d .answer ≡ writeAnswer g (length d)
+unfolding writing
+writing-answer g d =
+    split (eqb (writeAnswer g (length d) .code) 0)
+    (λ e. simp e)
+    (λ e. simp e)

@@ -15,8 +15,8 @@ use Rattle.tables.specs.Rules.{accountGood, linkGood}
 use Rattle.tables.proofs.Leading.{leading-is}
 use Rattle.image.specs.Layout.{fieldPlace, imageLength, imageOf}
 use Rattle.image_writer.specs.Writing.{countsGood, badAccount, badLink, writtenOf, valueAnswer, writeAnswer, Writing, writingOf, writing}
-use Rattle.image_writer.specs.Claims.{FirstBadConstant, FirstBadAccount, FirstBadLink, WriteCodes, RefusedWriteKeeps, WriteOffsets, WritesImage, ImageLength}
-use Rattle.image_writer.proofs.Answers.{constant-bad, account-bad, link-bad, value-bad, by-values, by-writing, writing-refused}
+use Rattle.image_writer.specs.Claims.{WriteRefuses, WriteAccepts, FirstBadConstant, FirstBadAccount, FirstBadLink, WriteCodes, RefusedWriteKeeps, WriteOffsets, WritesImage, ImageLength}
+use Rattle.image_writer.proofs.Answers.{writing-answer, counts-bad, room-short, room-enough, constant-bad, account-bad, link-bad, value-bad, by-values, by-writing, writing-refused}
 use Rattle.image_writer.proofs.Laying.{length-image}
 
 -- by cases of what writing answers and leaves
@@ -105,3 +105,22 @@ first-bad-link g d e c all j l before bad =
     (sym (leading-is (accountGood (accountTable (g .accounts))) (g .accountCount) (g .accountCount) (omega arith) all (λ h. absurd (omega arith))))
     (omega arith) j
     (sym (leading-is (linkGood (accountTable (g .accounts)) (linkTable (g .links)) (g .accountCount)) j (g .linkCount) (omega arith) before (λ _. bad))) l _ refl)
+
+-- ---- when 24, 26 and success come
+values-length : (g : Config) → valueAnswer g .code ≡ 0 → valueAnswer g ≡ writtenOf 0 (imageLength (g .accountCount) (g .linkCount))
+values-length g =
+    by-values g (λ w. w .code ≡ 0 → w ≡ writtenOf 0 (imageLength (g .accountCount) (g .linkCount)))
+    (λ c o. absurd (omega arith))
+    (λ a o. absurd (omega arith))
+    (λ b o. absurd (omega arith))
+    (λ c a b o. refl)
+
+pub write-refuses : WriteRefuses
+write-refuses g d = (
+  λ e. writing-answer g d ∙ sym (counts-bad g (length d) false (sym e) refl),
+  λ e v h. writing-answer g d ∙ sym (room-short g (length d) true (sym e) refl (valueAnswer g) refl v _ refl h),
+)
+
+pub write-accepts : WriteAccepts
+write-accepts g d e v h =
+    writing-answer g d ∙ sym (room-enough g (length d) true (sym e) refl (valueAnswer g) refl v _ refl h) ∙ values-length g v

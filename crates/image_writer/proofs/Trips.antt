@@ -5,15 +5,13 @@ use mathlib.Core.List.{List, [], _∷_, _++_}
 use mathlib.Core.Path.{_≡_, refl, sym, ap, ap₂, _∙_}
 use native.Mathlib.Nat.{zero-add}
 use native.Mathlib.Omega.{arith}
-use lib.Dec.{eqb}
 use lib.ListN.{length, getD, take, replicate}
 use lib.Seq.{take-length}
 use borrow.Author.Tests.{le-leb, eqb-true}
 use Rattle.octets.specs.Numbers.{numberAt, octetsOf}
-use Rattle.octets.specs.Runs.{octetsAt, joined, put}
+use Rattle.octets.specs.Runs.{octetsAt, put}
 use Rattle.octets.proofs.Numbers.{number-shift, number-octets}
 use Rattle.octets.proofs.Parts.{length-part, getD-part, part-is, part-none, part-join, part-joined, part-take, joined-same, octets-number}
-use Rattle.octets.proofs.Tests.{split}
 use Rattle.account.specs.Terms.{Terms, capacity}
 use Rattle.tables.specs.Rows.{Config, accountOctets, linkOctets, accountTable, linkTable, accountIn, linkIn, rowOctets}
 use Rattle.tables.specs.Rules.{accountGood, linkGood}
@@ -31,9 +29,9 @@ use Rattle.image.proofs.Accepted.{Accepted, accepted, head-passes, next-passes,
 use Rattle.image.proofs.Passing.{head-good-by, head-good-constant, head-good-edition, head-code-by, account-passes, link-passes, end-passes, reads-as}
 use Rattle.image.proofs.Fresh.{by-load, begins-put, rows-at, load-fresh, fresh-holds, held-long}
 use Rattle.image_writer.specs.Writing.{configOf, countsGood, countGood, badAccount, badLink, valueAnswer, writtenOf, writeAnswer, writingOf, writing}
-use Rattle.image_writer.specs.Trips.{AcceptedIsImage, ImageIsAccepted, writtenImage, readBack, WriteRead, loadedTables, ReadWrite}
+use Rattle.image_writer.specs.Trips.{tablesIn, AcceptedIsImage, ImageIsAccepted, writtenImage, readBack, WriteRead, loadedTables, ReadWrite}
 use Rattle.image_writer.specs.declared.Written.{Written}
-use Rattle.image_writer.proofs.Answers.{accounts-counted, links-counted, by-values, by-writing, all-good, room-enough, writing-done}
+use Rattle.image_writer.proofs.Answers.{writing-answer, accounts-counted, links-counted, by-values, by-writing, all-good, room-enough, writing-done}
 use Rattle.image_writer.proofs.Imaged.{tag-read, length-read, data-read, field-spelled, image-head, image-account, image-link, image-end, image-spelled}
 use Rattle.image_writer.proofs.Laying.{rowField, length-head, length-image}
 
@@ -53,14 +51,6 @@ counts-by : (accounts : List ℕ) (n : ℕ) (links : List ℕ) (m : ℕ) → 1 �
     → 1 ≤ m → m ≤ maxLinks → linkOctets * m ≤ length links → countsGood accounts n links m ≡ true
 unfolding countsGood countGood
 counts-by accounts n links m a b c d e f = simp (le-leb _ _ a, le-leb _ _ b, le-leb _ _ c, le-leb _ _ d, le-leb _ _ e, le-leb _ _ f)
-
--- the answer stands beside the room, whatever it is
-writing-answer : (g : Config) (d : List ℕ) → writing g d .answer ≡ writeAnswer g (length d)
-unfolding writing
-writing-answer g d =
-    split (eqb (writeAnswer g (length d) .code) 0)
-    (λ e. simp e)
-    (λ e. simp e)
 
 -- the octets of fresh rows are the image's
 module _ (s : List ℕ) (r : Runs) (f : Fresh s r) where
@@ -127,13 +117,19 @@ unfolding badLink
 all-links g room a =
     leading-is (linkGood (accountTable (g .accounts)) (linkTable (g .links)) (g .accountCount)) (g .linkCount) (g .linkCount) (omega arith) (a .links) (λ h. absurd (omega arith))
 
+values-are : (g : Config) (room : ℕ) → Accepts g room → writtenOf 0 (imageLength (g .accountCount) (g .linkCount)) ≡ valueAnswer g
+values-are g room a =
+    let x = all-accounts g room a in
+    let y = all-links g room a in
+    all-good g true (sym (a .constant)) refl (badAccount g) refl (omega arith) (badLink g) refl (omega arith) _ refl
+
+values-fine : (g : Config) (room : ℕ) → Accepts g room → valueAnswer g .code ≡ 0
+values-fine g room a = sym (ap (λ (w : Written). w .code) (values-are g room a))
+
 module _ (g : Config) (d : List ℕ) (a : Accepts g (length d)) where
   answers : writtenOf 0 (imageLength (g .accountCount) (g .linkCount)) ≡ writeAnswer g (length d)
   answers =
-      let x = all-accounts g (length d) a in
-      let y = all-links g (length d) a in
-      room-enough g (length d) true (sym (a .counts)) refl (writtenOf 0 (imageLength (g .accountCount) (g .linkCount)))
-      (all-good g true (sym (a .constant)) refl (badAccount g) refl (omega arith) (badLink g) refl (omega arith) _ refl)
+      room-enough g (length d) true (sym (a .counts)) refl (writtenOf 0 (imageLength (g .accountCount) (g .linkCount))) (values-are g (length d) a)
       refl _ refl (a .fits)
 
   pub writes : writing g d ≡ writingOf (writtenOf 0 (imageLength (g .accountCount) (g .linkCount))) (put d 0 (imageOf g))
@@ -374,7 +370,9 @@ just : (s : List ℕ) → readImage s .code ≡ 0
 just s z = record { accepted = z; accounts = take-length _; credits = take-length _; lasts = take-length _; links = take-length _ }
 
 pub accepted-is-image : AcceptedIsImage
-accepted-is-image s o z = image-again s o z _ (just s z)
+accepted-is-image s o z =
+    let a : Accepts (tablesIn s) (length s) = read-accepts s o z _ (just s z) (length s) (omega arith) in
+    (image-again s o z _ (just s z), a .counts, values-fine (tablesIn s) (length s) a)
 
 pub read-write : ReadWrite
 read-write s r d o z h =

@@ -1,6 +1,6 @@
 -- What holds of writing for any tables, counts and room whatsoever (document 01, "The configuration image", the writer); proved in
 -- proofs/Claims.antt.
-use Prim.Native.Nat.{ℕ, _<_}
+use Prim.Native.Nat.{ℕ, _≤_, _<_}
 use mathlib.Core.Bool.{true, false}
 use mathlib.Core.List.{List, [], _∷_, _++_, List·Memᴰ}
 use mathlib.Core.Path.{_≡_}
@@ -8,7 +8,7 @@ use lib.ListN.{length, drop}
 use Rattle.tables.specs.Rows.{Config, accountTable, linkTable}
 use Rattle.tables.specs.Rules.{accountGood, linkGood}
 use Rattle.image.specs.Layout.{fieldPlace, imageLength, constantGood, imageOf}
-use Rattle.image_writer.specs.Writing.{countsGood, writtenOf, writing}
+use Rattle.image_writer.specs.Writing.{countsGood, writtenOf, valueAnswer, writing}
 
 -- demand 1: the codes that writing can answer
 abbrev pub WriteCodes : Type 0
@@ -25,6 +25,20 @@ WriteOffsets =
     → (writing g d .answer .code ≡ 24 → writing g d .answer .offset ≡ 0)
     × (writing g d .answer .code ≡ 26 → writing g d .answer .offset ≡ 0)
     × (writing g d .answer .code ≡ 0 → writing g d .answer .offset ≡ length (imageOf g))
+
+-- when 24, 26 and success come: by the counts; and, counts and values being good, by the room
+abbrev pub WriteRefuses : Type 0
+WriteRefuses =
+    (g : Config) (d : List ℕ)
+    → (countsGood (g .accounts) (g .accountCount) (g .links) (g .linkCount) ≡ false → writing g d .answer ≡ writtenOf 24 0)
+    × (countsGood (g .accounts) (g .accountCount) (g .links) (g .linkCount) ≡ true → valueAnswer g .code ≡ 0
+    → length d < imageLength (g .accountCount) (g .linkCount) → writing g d .answer ≡ writtenOf 26 0)
+
+abbrev pub WriteAccepts : Type 0
+WriteAccepts =
+    (g : Config) (d : List ℕ) → countsGood (g .accounts) (g .accountCount) (g .links) (g .linkCount) ≡ true → valueAnswer g .code ≡ 0
+    → imageLength (g .accountCount) (g .linkCount) ≤ length d
+    → writing g d .answer ≡ writtenOf 0 (imageLength (g .accountCount) (g .linkCount))
 
 -- 23 with the first bad value: the constant field; else the first account; else, all accounts being good, the first link
 abbrev pub FirstBadConstant : Type 0

@@ -20,10 +20,14 @@ tablesIn s =
     configOf (readImage s .constant) (accountRows s (readImage s .accounts)) (readImage s .accounts)
     (linkRows s (readImage s .accounts) (readImage s .links)) (readImage s .links)
 
-abbrev pub AcceptedIsImage : Type 0
-AcceptedIsImage = (s : List ℕ) → ((i : ℕ) → getD s i 0 < 256) → readImage s .code ≡ 0 → imageOf (tablesIn s) ≡ s
-
 -- good tables are those with neither a bad count nor a bad value
+abbrev pub AcceptedIsImage : Type 0
+AcceptedIsImage =
+    (s : List ℕ) → ((i : ℕ) → getD s i 0 < 256) → readImage s .code ≡ 0
+    → (imageOf (tablesIn s) ≡ s)
+    × (countsGood (tablesIn s .accounts) (tablesIn s .accountCount) (tablesIn s .links) (tablesIn s .linkCount) ≡ true)
+    × (valueAnswer (tablesIn s) .code ≡ 0)
+
 abbrev pub ImageIsAccepted : Type 0
 ImageIsAccepted =
     (g : Config) → g .constant < 2 ^ 32 → countsGood (g .accounts) (g .accountCount) (g .links) (g .linkCount) ≡ true → valueAnswer g .code ≡ 0

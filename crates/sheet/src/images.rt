@@ -133,7 +133,7 @@ fn lengths() {
 
 // Several faults: those of an earlier field first, and in one field in the order of checking.
 fn orders() {
-    say::text(b"# order of codes\n");
+    say::text(b"# order of image codes\n");
     // 2 octets left and tag; tag and length; tag and data cut
     read(1, 1, 10, 8, 0x04_0006_00C8_00_01F4);
     read(1, 1, 36, 8, 0x04_0007_00C8_00_01F4);
@@ -169,6 +169,7 @@ fn most_accounts() {
     cut(65, 1, 612);
     cut(65, 1, 586);
     cut(65, 1, 592);
+    cut(65, 1, 593);
     read(65, 1, 612, 584, 0x04_0006_0108_00_01F4);
     read(65, 1, 612, 584, 0x02_0007_0108_00_01F4);
     read(65, 1, 592, 584, 0x02_0007_0108_00_01F4);
@@ -186,6 +187,7 @@ fn most_links() {
     // a 257th: whole, cut, with another tag, length, number
     cut(64, 257, 4699);
     cut(64, 257, 4695);
+    cut(64, 257, 4696);
     read(64, 257, 4699, 4680, 0x02_0006_00C8_00_01F4);
     read(64, 257, 4699, 4680, 0x03_000E_0107_02_0000);
     read(64, 257, 4699, 4680, 0x03_000D_0106_02_0000);

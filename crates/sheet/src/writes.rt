@@ -219,6 +219,7 @@ fn limit(n: usize, m: usize) {
 }
 
 fn limits() {
+    say::text(b"# write limits\n");
     limit(64, 256);
     limit(65, 256);
     limit(64, 257);

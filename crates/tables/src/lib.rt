@@ -1,5 +1,5 @@
 // The tables that a switch is lent: rows of 6 octets an account and 13 a link, in the order of the image's data.
-// Decoding a row, the value rules of a link, and the search for a link's number.
+// Decoding a row, the value rules of rows, and the search for a link's number.
 ghost use mathlib.Core.Path.{_≡_};
 ghost use Prim.Native.Nat.{_+_, _*_, min};
 ghost use lib.ListN.{length};
