@@ -1,8 +1,8 @@
 -- Laws of laying an image's octets: a field, fields one after the other, the whole image. Assumes nothing.
-use Prim.Native.Nat.{ℕ, suc, _+_, _*_, _^_, _≤_, _<_}
+use Prim.Native.Nat.{ℕ, suc, _+_, _*_, _≤_, _<_}
 use mathlib.Core.List.{List, [], _∷_, _++_}
 use mathlib.Core.Path.{_≡_, refl, sym, ap, _∙_}
-use native.Mathlib.Nat.{zero-add, mul-suc, mul-le-mul, mul-le-mul-left}
+use native.Mathlib.Nat.{zero-add, mul-suc, mul-le-mul-left}
 use native.Mathlib.Omega.{arith}
 use mathlib.Core.Bool.{Bool, false, not}
 use lib.Dec.{leb}
@@ -75,14 +75,6 @@ fields-grow d e at tag size rows n i h l v =
 -- where field i of n ends
 pub field-inside : (x i n : ℕ) → i < n → x * i + x ≤ x * n
 field-inside x i n l = rw (← mul-suc x i) (mul-le-mul-left x l)
-
--- a size in one octet, a field's head beside it, times a count in two octets
-pub small-product : (x y : ℕ) → x < 2 ^ 8 + tagAndLength → y < 2 ^ 16 → x * y < 2 ^ 25
-small-product x y h k =
-    let hx : x ≤ 258 = omega arith in
-    let hy : y ≤ 65535 = omega arith in
-    let p : x * y ≤ 258 * 65535 = mul-le-mul hx hy in
-    omega arith
 
 -- ---- the whole image
 pub length-image : (g : Config) → length (imageOf g) ≡ imageLength (g .accountCount) (g .linkCount)

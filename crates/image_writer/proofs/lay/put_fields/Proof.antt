@@ -9,7 +9,8 @@ use Rattle.octets.specs.Runs.{joined, put}
 use Rattle.octets.proofs.Runs.{put-refused, lay-none, length-laid}
 use Rattle.octets.proofs.Tests.{has-room}
 use Rattle.image.specs.Layout.{tagAndLength}
-use Rattle.image_writer.proofs.Laying.{rowField, length-row-field, length-fields, fields-grow, field-inside, small-product}
+use Rattle.image.proofs.Filling.{small-product}
+use Rattle.image_writer.proofs.Laying.{rowField, length-row-field, length-fields, fields-grow, field-inside}
 use borrow.Author.Needs.{needs}
 use Rattle.image_writer.proofs.lay.put_fields.Statement.{statement}
 use Rattle.image_writer.proofs.lay.put_fields.Tie as tie
