@@ -26,7 +26,7 @@ const FRAME_MODE: u8 = 1;
 const LONG_ELAPSED: u64 = 4294967296;
 
 // Code 10.
-const UNSOUND: u8 = 10;
+pub const UNSOUND: u8 = 10;
 
 // Configured values (Smax in octets, BAG of 2^k milliseconds, jitter in microseconds, mode), the credit, and the time
 // of the last frame that reached the account.

@@ -11,12 +11,11 @@ use Rattle.octets.specs.Numbers.{numberAt}
 use Rattle.octets.proofs.Tests.{split, both}
 use Rattle.tables.specs.Rules.{accountGood, linkGood}
 use Rattle.tables.proofs.Leading.{leading-before, leading-fails}
-use Rattle.image.specs.Layout.{headTag, accountTag, linkTag, endTag, tagAndLength, headOctets, fieldPlace, imageLength, maxAccounts, maxLinks}
-use Rattle.image.specs.Read.{fieldCode, headGood, headCode, accountFields, linkFields, inOrder, dataOctets, isFull, valuesGood, tagAt, nextCode, goodField, accountCount, linkCount, refused, readImage}
-use Rattle.image.specs.Loading.{Runs, answerFor}
+use Rattle.layout.specs.Layout.{headTag, accountTag, linkTag, endTag, tagAndLength, headOctets, fieldPlace, imageLength, maxAccounts, maxLinks}
+use Rattle.image.specs.Read.{fieldCode, headGood, headCode, accountFields, linkFields, inOrder, dataOctets, isFull, valuesGood, tagAt, nextCode, goodField, accountCount, linkCount, readImage}
 use Rattle.image.specs.declared.Loaded.{Loaded}
 use Rattle.image.proofs.Checks.{code-short, code-order, code-length, code-cut, code-full, code-bad, values-account, values-link, full-account, full-link}
-use Rattle.image.proofs.Reading.{by-end, by-reading, by-loading}
+use Rattle.image.proofs.Reading.{by-end, by-reading}
 
 -- ---- a field that passes every check
 pub record Passed (s : List ℕ) (at : ℕ) (order : Bool) (size : ℕ) (full good : Bool) : Type 0 where
@@ -159,26 +158,6 @@ refused-zeros s =
     (λ d f. (refl, refl, refl))
     (λ e l f. (refl, refl, refl))
     (λ e l f. absurd (f refl)))
-
--- ---- the same of loading
-module _ (s : List ℕ) (r : Runs) (q : Loaded) (e : q ≡ answerFor s r) where
-  by-answer : (P : Loaded → Type 0)
-      → ((readImage s .code ≡ 0 → ⊥) → P (readImage s)) → (readImage s .code ≡ 0 → P (readImage s)) → P (refused 26 (length s)) → P q
-  by-answer P f g h = rw e (by-loading s (length (r .accounts)) (length (r .credits)) (length (r .lasts)) (length (r .links)) P f (λ z t. g z) (λ z t. h))
-
-  pub refused-none : (q .code ≡ 0 → ⊥) → (q .accounts ≡ 0) × (q .links ≡ 0)
-  refused-none =
-      by-answer (λ x. (x .code ≡ 0 → ⊥) → (x .accounts ≡ 0) × (x .links ≡ 0))
-      (λ d f. let z = refused-zeros s d in (z .1, z .2))
-      (λ z f. absurd (f z))
-      (λ f. (refl, refl))
-
-  pub loaded-good : q .code ≡ 0 → (i : ℕ) → i < q .accounts → accountGood (accountFields s) i ≡ true
-  loaded-good =
-      by-answer (λ x. x .code ≡ 0 → (i : ℕ) → i < x .accounts → accountGood (accountFields s) i ≡ true)
-      (λ d z. absurd (d z))
-      (λ z w i l. let k = accepted s z .accounts-are in good-account s i (counted-account s i (omega arith)))
-      (λ z. absurd (omega arith))
 
 -- ---- what ends the reading is the end
 ltb-of : {a b : ℕ} → leb a b ≡ false → b < a

@@ -6,14 +6,10 @@ use Rattle.account.specs.Terms.{inLimits}
 use Rattle.tables.specs.Leading.{leading}
 use Rattle.tables.specs.Rows.{termsAt, linkAt}
 use Rattle.tables.specs.Rules.{portsSound, sizesSound, linkSound, accountGood, numberRises, linkGood}
-use Rattle.image.specs.Layout.{fieldOf, imageOf, fieldPlace, constantGood}
+use Rattle.layout.specs.Layout.{fieldOf, imageOf, fieldPlace, constantGood}
 use Rattle.image.specs.Read.{fieldCode, headGood, headCode, inOrder, dataOctets, isFull, valuesGood, nextCode, goodField, accountCount, linkCount, readEnd, readImage}
-use Rattle.image.specs.Bench.{ImagePReads, ConstantLimits}
+use Rattle.image.specs.Bench.{ImagePReads}
 
 pub image-p-reads : ImagePReads
 unfolding numberAt octetsOf octetsAt joined inLimits leading termsAt linkAt portsSound sizesSound linkSound accountGood numberRises linkGood fieldOf imageOf fieldPlace constantGood fieldCode headGood headCode inOrder dataOctets isFull valuesGood nextCode goodField accountCount linkCount readEnd readImage
 image-p-reads = (refl, refl, refl, refl)
-
-pub constant-limits : ConstantLimits
-unfolding constantGood
-constant-limits = (refl, refl)

@@ -1,9 +1,8 @@
 -- Laws of the checks of one field, case by case as the code makes them. Assumes nothing.
-use Prim.Native.Nat.{ℕ, _+_, _*_, _≤_, _<_}
+use Prim.Native.Nat.{ℕ, _+_, _≤_, _<_}
 use mathlib.Core.Bool.{Bool, true, false, not}
 use mathlib.Core.List.{List}
 use mathlib.Core.Path.{_≡_, ap, _∙_}
-use native.Mathlib.Omega.{arith}
 use lib.Dec.{leb, eqb}
 use lib.ListN.{length, getD}
 use borrow.Author.Tests.{le-leb, lt-leb, eq-eqb, ne-eqb, not-true, not-false}
@@ -11,17 +10,8 @@ use Rattle.octets.specs.Numbers.{numberAt}
 use Rattle.octets.proofs.Tests.{split}
 use Rattle.tables.specs.Rows.{accountOctets, linkOctets}
 use Rattle.tables.specs.Rules.{accountGood, linkGood}
-use Rattle.image.specs.Layout.{headTag, headOctets, accountTag, linkTag, endTag, edition, tagAndLength, accountSize, linkSize, fieldPlace, dataPlace, maxAccounts, maxLinks, constantGood}
+use Rattle.layout.specs.Layout.{headTag, headOctets, accountTag, linkTag, endTag, edition, tagAndLength, fieldPlace, maxAccounts, maxLinks, constantGood}
 use Rattle.image.specs.Read.{fieldCode, headGood, headCode, accountFields, linkFields, inOrder, dataOctets, isFull, valuesGood, tagAt, nextCode, goodField}
-
--- ---- where the data of accounts and links stand
-pub account-place : (i : ℕ) → dataPlace i 0 ≡ dataPlace 0 0 + accountSize * i
-unfolding fieldPlace
-account-place i = omega arith
-
-pub link-place : (n j : ℕ) → dataPlace n j ≡ dataPlace n 0 + linkSize * j
-unfolding fieldPlace
-link-place n j = omega arith
 
 -- ---- the code of a field
 module _ (s : List ℕ) (at : ℕ) (order : Bool) (size : ℕ) (full good : Bool) where

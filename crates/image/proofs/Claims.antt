@@ -1,32 +1,23 @@
--- What holds of reading and loading for any octets and any runs. Assumes nothing.
-use Prim.Native.Nat.{ℕ, zero, suc, _+_, _-_, _*_, _≤_, _<_}
+-- What holds of reading for any octets. Assumes nothing.
+use Prim.Native.Nat.{ℕ, zero, suc, _+_, _-_, _≤_, _<_}
 use mathlib.Core.Bool.{Bool, true, false, not, _||_, false≢true}
 use mathlib.Core.List.{List, [], _∷_, List·Memᴰ, List·Memᴰ·head, List·Memᴰ·tail}
 use mathlib.Core.Path.{_≡_, refl, sym, ap, _∙_}
 use native.Mathlib.Omega.{arith}
 use lib.Dec.{leb, eqb}
-use lib.ListN.{length, getD, drop, replicate, length-replicate}
-use lib.Seq.{drop-at}
-use borrow.Author.Tests.{leb-true, leb-false, eqb-true, eqb-false}
+use lib.ListN.{length, getD}
+use borrow.Author.Tests.{leb-false, eqb-true, eqb-false}
 use Rattle.octets.specs.Choice.{if_then_else_}
 use Rattle.octets.specs.Numbers.{numberAt}
-use Rattle.octets.specs.Runs.{put}
 use Rattle.octets.proofs.Tests.{split}
-use Rattle.octets.proofs.Runs.{put-fits, put-no-room}
 use Rattle.tables.specs.Rows.{accountOctets, linkOctets}
 use Rattle.tables.proofs.Leading.{leading-fails}
-use Rattle.image.specs.Layout.{headTag, accountTag, linkTag, endTag, headSize, accountSize, linkSize, tagAndLength, headOctets, fieldPlace, imageLength, maxAccounts, maxLinks, longestImage}
-use Rattle.image.specs.Read.{fieldCode, headGood, headCode, accountFields, inOrder, dataOctets, isFull, valuesGood, tagAt, nextCode, goodField, accountCount, linkCount, refused, readEnd, readImage}
-use Rattle.image.specs.Loading.{Runs, accountRows, linkRows, capacities, filled}
-use Rattle.image.specs.Claims.{ImageFigures, LoadRefuses, ReadCodes, LoadCodes, RefusedLoadKeeps, OffsetsInside, RowsBeyondKept, AcceptedEnds, walked, ReadFieldByField}
-use Rattle.image.proofs.Accepted.{Accepted, accepted, refused-zeros, head-passes, next-passes, good-tag, good-code, counted-account, counted-link, some-accounts, some-links, end-tag}
+use Rattle.layout.specs.Layout.{headTag, accountTag, linkTag, endTag, headSize, accountSize, linkSize, tagAndLength, headOctets, fieldPlace, imageLength, maxAccounts, maxLinks, longestImage}
+use Rattle.image.specs.Read.{fieldCode, headGood, headCode, inOrder, dataOctets, isFull, valuesGood, tagAt, nextCode, goodField, accountCount, linkCount, readEnd, readImage}
+use Rattle.image.specs.Claims.{ReadCodes, AcceptedEnds, walked, ReadFieldByField}
+use Rattle.image.proofs.Accepted.{Accepted, accepted, head-passes, next-passes, good-tag, good-code, counted-account, counted-link, some-accounts, some-links, end-tag}
 use Rattle.image.proofs.Checks.{order-first, order-end, octets-account, octets-link, full-account, full-link}
-use Rattle.image.proofs.Fresh.{runsHeld, by-load, length-account-rows, length-link-rows, length-capacities}
 use Rattle.image.proofs.Reading.{few-accounts, few-links, few-read, by-end, by-reading}
-
-pub image-figures : ImageFigures
-unfolding fieldPlace
-image-figures = (refl, refl, refl, refl, refl, refl, refl, refl, refl, refl, refl, refl, refl)
 
 -- ---- codes
 -- what holds of both answers holds of the choice
@@ -66,11 +57,11 @@ module _ (P : ℕ → Type 0) (p0 : P 0) (p20 : P 20) (p21 : P 21) (p22 : P 22) 
       (λ _ _. p0))
 
 -- a number that a list has, by computing
-abbrev has : ℕ → List ℕ → Bool
+abbrev pub has : ℕ → List ℕ → Bool
 has x [] = false
 has x (y ∷ l) = eqb x y || has x l
 
-listed : (x : ℕ) (l : List ℕ) → has x l ≡ true → List·Memᴰ x l
+pub listed : (x : ℕ) (l : List ℕ) → has x l ≡ true → List·Memᴰ x l
 listed x [] e = absurd (false≢true e)
 listed x (y ∷ l) e =
     split (eqb x y)
@@ -78,7 +69,7 @@ listed x (y ∷ l) e =
     (λ q. List·Memᴰ·tail (listed x l (rw q at e)))
 
 -- a list that has every code of reading
-code-listed : (l : List ℕ)
+pub code-listed : (l : List ℕ)
     → has 0 l ≡ true → has 20 l ≡ true → has 21 l ≡ true → has 22 l ≡ true → has 23 l ≡ true → has 24 l ≡ true → has 25 l ≡ true
     → (s : List ℕ) → List·Memᴰ (readImage s .code) l
 code-listed l p0 p20 p21 p22 p23 p24 p25 =
@@ -87,39 +78,11 @@ code-listed l p0 p20 p21 p22 p23 p24 p25 =
 pub read-codes : ReadCodes
 read-codes = code-listed (0 ∷ 20 ∷ 21 ∷ 22 ∷ 23 ∷ 24 ∷ 25 ∷ []) refl refl refl refl refl refl refl
 
-pub load-codes : LoadCodes
-load-codes s r =
-    let l : List ℕ = 0 ∷ 20 ∷ 21 ∷ 22 ∷ 23 ∷ 24 ∷ 25 ∷ 26 ∷ [] in
-    let c : List·Memᴰ (readImage s .code) l = code-listed l refl refl refl refl refl refl refl s in
-    by-load s r (λ w. List·Memᴰ (w .answer .code) l) (λ _. c) (λ _ _. c) (λ _ _. listed 26 l refl)
-
 -- reading never answers 26
-not-26 : (s : List ℕ) → readImage s .code ≡ 26 → ⊥
+pub not-26 : (s : List ℕ) → readImage s .code ≡ 26 → ⊥
 not-26 =
     by-code (λ x. x ≡ 26 → ⊥) (λ e. omega arith) (λ e. omega arith) (λ e. omega arith) (λ e. omega arith) (λ e. omega arith)
     (λ e. omega arith) (λ e. omega arith)
-
--- ---- loading refused
-pub refused-load-keeps : RefusedLoadKeeps
-refused-load-keeps s r =
-    by-load s r
-    (λ w. (w .answer .code ≡ 0 → ⊥) → (w .runs ≡ r) × (w .answer .constant ≡ 0) × (w .answer .accounts ≡ 0) × (w .answer .links ≡ 0))
-    (λ d _. let z = refused-zeros s d in (refl, z .0, z .1, z .2))
-    (λ z _ d. absurd (d z))
-    (λ _ _ _. (refl, refl, refl, refl))
-
--- ---- what loading answers where it refuses
-pub load-refuses : LoadRefuses
-load-refuses s r = (
-  by-load s r (λ w. (readImage s .code ≡ 0 → ⊥) → w .answer ≡ readImage s)
-      (λ d f. refl)
-      (λ z t f. absurd (f z))
-      (λ z t f. absurd (f z)),
-  by-load s r (λ w. readImage s .code ≡ 0 → runsHeld s r ≡ false → w .answer ≡ refused 26 (length s))
-      (λ d z f. absurd (d z))
-      (λ z t y f. absurd (false≢true (sym f ∙ t)))
-      (λ z t y f. refl),
-)
 
 -- ---- accepted images
 longest : (s : List ℕ) {n m : ℕ} → length s ≡ imageLength n m → n ≤ maxAccounts → m ≤ maxLinks → length s ≤ longestImage
@@ -175,7 +138,7 @@ module _ (s : List ℕ) (z : headCode s ≡ 0) where
       let p = place-link n m in
       omega arith
 
-offset-inside : (s : List ℕ) → readImage s .offset ≤ length s
+pub offset-inside : (s : List ℕ) → readImage s .offset ≤ length s
 offset-inside s =
     by-reading s (λ q. q .offset ≤ length s)
     (λ _. omega arith)
@@ -186,46 +149,6 @@ offset-inside s =
     (λ _. links-inside s z n m (omega arith) (omega arith))
     (λ _ l. omega arith)
     (λ _ _. omega arith))
-
-pub offsets-inside : OffsetsInside
-offsets-inside s r =
-    by-load s r
-    (λ w. (w .answer .offset ≤ length s) × (w .answer .code ≡ 0 → w .answer .offset ≡ length s) × (w .answer .code ≡ 26 → w .answer .offset ≡ length s))
-    (λ d. (offset-inside s, λ z. absurd (d z), λ e. absurd (not-26 s e)))
-    (λ z _. (offset-inside s, λ _. accepted s z .offset-is, λ e. absurd (not-26 s e)))
-    (λ _ _. (omega arith, λ e. absurd (omega arith), λ _. refl))
-
--- ---- rows beyond what was laid
-drop-put : (d xs : List ℕ) (k : ℕ) → length xs ≡ k → drop k (put d 0 xs) ≡ drop k d
-drop-put d xs k e =
-    let p : 0 + length xs ≡ k = omega arith in
-    split (leb (0 + length xs) (length d))
-    (λ h. ap (drop k) (put-fits d 0 xs (leb-true _ _ h)) ∙ drop-at xs (drop (0 + length xs) d) k e ∙ ap (λ (i : ℕ). drop i d) p)
-    (λ h. ap (drop k) (put-no-room d 0 xs (leb-false _ _ h)))
-
--- filled runs are as they were behind the rows named
-abbrev Beyond : ℕ → ℕ → Runs → Runs → Type 0
-Beyond n m a r =
-    (drop (accountOctets * n) (a .accounts) ≡ drop (accountOctets * n) (r .accounts))
-    × (drop n (a .credits) ≡ drop n (r .credits))
-    × (drop n (a .lasts) ≡ drop n (r .lasts))
-    × (drop (linkOctets * m) (a .links) ≡ drop (linkOctets * m) (r .links))
-
-filled-beyond : (s : List ℕ) (n m : ℕ) (r : Runs) → Beyond n m (filled s n m r) r
-unfolding filled
-filled-beyond s n m r = (
-  drop-put (r .accounts) (accountRows s n) (accountOctets * n) (length-account-rows s n m),
-  drop-put (r .credits) (capacities (accountFields s) n) n (length-capacities s n m),
-  drop-put (r .lasts) (replicate n 0) n (length-replicate n 0),
-  drop-put (r .links) (linkRows s n m) (linkOctets * m) (length-link-rows s n m),
-)
-
-pub rows-beyond-kept : RowsBeyondKept
-rows-beyond-kept s r =
-    by-load s r (λ w. w .answer .code ≡ 0 → Beyond (w .answer .accounts) (w .answer .links) (w .runs) r)
-    (λ d z. absurd (d z))
-    (λ _ _ _. filled-beyond s (readImage s .accounts) (readImage s .links) r)
-    (λ _ _ z. absurd (omega arith))
 
 -- ---- field by field: one step of the walk
 module _ (k : ℕ) (s : List ℕ) (n m : ℕ) where

@@ -11,7 +11,7 @@ use Rattle.octets.specs.Numbers.{numberAt}
 use Rattle.octets.proofs.Tests.{split, both}
 use Rattle.tables.specs.Rules.{accountGood, linkGood}
 use Rattle.tables.proofs.Leading.{leading-is}
-use Rattle.image.specs.Layout.{headTag, accountTag, linkTag, endTag, edition, tagAndLength, headOctets, headSize, accountSize, linkSize, fieldPlace, imageLength, maxAccounts, maxLinks, constantGood}
+use Rattle.layout.specs.Layout.{headTag, accountTag, linkTag, endTag, edition, tagAndLength, headOctets, headSize, accountSize, linkSize, fieldPlace, imageLength, maxAccounts, maxLinks, constantGood}
 use Rattle.image.specs.Read.{headGood, headCode, accountFields, linkFields, inOrder, dataOctets, isFull, valuesGood, tagAt, nextCode, goodField, accountCount, linkCount, readImage}
 use Rattle.image.proofs.Checks.{code-good, order-first, order-link, order-account, order-end, octets-account, octets-link, octets-end, full-account, full-link, full-end, values-account, values-link, values-end}
 use Rattle.image.proofs.Accepted.{good-by}

@@ -16,15 +16,11 @@ use Rattle.tables.specs.Rows.{accountOctets, linkOctets, accountIn, linkIn}
 use Rattle.tables.proofs.Leading.{leading-same}
 use Rattle.tables.proofs.Rows.{terms-same, link-same}
 use Rattle.tables.proofs.Rules.{account-good-same, link-good-same}
-use Rattle.image.specs.Layout.{headTag, accountTag, linkTag, tagAndLength, headOctets, headSize, accountSize, linkSize, fieldPlace, imageLength, maxAccounts, maxLinks, imagePrefix}
+use Rattle.layout.specs.Layout.{headTag, accountTag, linkTag, tagAndLength, headOctets, headSize, accountSize, linkSize, fieldPlace, imageLength, maxAccounts, maxLinks, imagePrefix}
 use Rattle.image.specs.Read.{fieldCode, headGood, headCode, accountFields, linkFields, inOrder, dataOctets, isFull, valuesGood, tagAt, nextCode, goodField, accountCount, linkCount, readEnd, readImage}
-use Rattle.image.specs.Loading.{Runs, loadingOf, loading}
-use Rattle.image.specs.Claims.{PrefixRead, PrefixLoad}
-use Rattle.image.specs.declared.Loaded.{Loaded}
-use Rattle.image.proofs.Accepted.{accepted}
+use Rattle.image.specs.Claims.{PrefixRead}
 use Rattle.image.proofs.Checks.{octets-account, octets-link, octets-end}
-use Rattle.image.proofs.Fresh.{by-load}
-use Rattle.image.proofs.Reading.{few-read, few-accounts, few-links, end-refused, end-surplus, end-accepted, head-refused, head-passed, by-end, by-reading}
+use Rattle.image.proofs.Reading.{few-accounts, few-links, end-refused, end-surplus, end-accepted, head-refused, head-passed, by-end, by-reading}
 
 -- no field's data are longer than a link's
 small-data : (tag : ℕ) → dataOctets tag ≤ linkOctets
@@ -161,23 +157,3 @@ pub prefix-read : PrefixRead
 prefix-read s =
     ap (λ (p : ℕ). readImage (take p s)) prefix-is
     ∙ read-same (take prefix s) s (λ i l. getD-take prefix s i 0 l) (prefix-long s)
-
--- ---- loading: an accepted image is no longer than the prefix, and what is refused leaves the runs
-short : (s : List ℕ) → readImage s .code ≡ 0 → length s ≤ prefix
-unfolding fieldPlace
-short s z = let l = accepted s z .length-is in let a = few-read s .0 in let b = few-read s .1 in omega arith
-
-refused-load : (s : List ℕ) (r : Runs) → (readImage s .code ≡ 0 → ⊥) → loading s r ≡ loadingOf (readImage s) r
-refused-load s r d =
-    by-load s r (λ w. w ≡ loadingOf (readImage s) r) (λ _. refl) (λ z _. absurd (d z)) (λ z _. absurd (d z))
-
-pub prefix-load : PrefixLoad
-prefix-load s r =
-    split (eqb (readImage s .code) 0)
-    (λ e. ap (λ (t : List ℕ). loading t r) (ap (λ (p : ℕ). take p s) prefix-is ∙ take-all prefix s (short s (eqb-true _ _ e))))
-    (λ e.
-    let d : (readImage s .code ≡ 0 → ⊥) = eqb-false _ _ e in
-    let q : readImage (take imagePrefix s) ≡ readImage s = prefix-read s in
-    refused-load (take imagePrefix s) r (λ z. d (sym (ap (λ (x : Loaded). x .code) q) ∙ z))
-    ∙ ap (λ (x : Loaded). loadingOf x r) q
-    ∙ sym (refused-load s r d))

@@ -1,19 +1,16 @@
 -- Laws of what reading and loading answer, case by case as the code makes them. Assumes nothing.
-use Prim.Native.Nat.{ℕ, _*_, _≤_, _<_}
-use mathlib.Core.Bool.{Bool, true, false}
+use Prim.Native.Nat.{ℕ, _≤_, _<_}
 use mathlib.Core.List.{List}
 use mathlib.Core.Path.{_≡_, sym, ap, ap₂, _∙_}
 use native.Mathlib.Omega.{arith}
-use lib.Dec.{ltb, leb, eqb}
+use lib.Dec.{ltb, eqb}
 use lib.ListN.{length}
-use borrow.Author.Tests.{lt-ltb, le-ltb, ltb-true, ltb-false, le-leb, lt-leb, eq-eqb, ne-eqb, eqb-true, eqb-false}
+use borrow.Author.Tests.{lt-ltb, le-ltb, ltb-true, ltb-false, eq-eqb, ne-eqb, eqb-true, eqb-false}
 use Rattle.octets.specs.Numbers.{numberAt}
 use Rattle.octets.proofs.Tests.{split}
-use Rattle.tables.specs.Rows.{accountOctets, linkOctets}
 use Rattle.tables.proofs.Leading.{leading-high}
-use Rattle.image.specs.Layout.{accountTag, linkTag, fieldPlace, dataPlace, imageLength, maxAccounts, maxLinks}
+use Rattle.layout.specs.Layout.{accountTag, linkTag, fieldPlace, dataPlace, imageLength, maxAccounts, maxLinks}
 use Rattle.image.specs.Read.{headCode, nextCode, goodField, accountCount, linkCount, refused, readEnd, readImage}
-use Rattle.image.specs.Loading.{runsHold, loadAnswer}
 use Rattle.image.specs.declared.Loaded.{Loaded}
 
 -- ---- counts are within the limits
@@ -95,67 +92,3 @@ few-accounts-read s q e = rw e (few-read s .0)
 
 pub few-links-read : (s : List ℕ) (q : Loaded) → q ≡ readImage s → q .links ≤ maxLinks
 few-links-read s q e = rw e (few-read s .1)
-
--- ---- runs long enough
-module _ (n m accounts credits lasts links : ℕ) where
-  pub accounts-short : accounts < accountOctets * n → false ≡ runsHold n m accounts credits lasts links
-  unfolding runsHold
-  accounts-short h = simp (lt-leb _ _ h)
-
-  module _ (h1 : accountOctets * n ≤ accounts) where
-    pub credits-short : credits < n → false ≡ runsHold n m accounts credits lasts links
-    unfolding runsHold
-    credits-short h = simp (le-leb _ _ h1, lt-leb _ _ h)
-
-    module _ (h2 : n ≤ credits) where
-      pub lasts-short : lasts < n → false ≡ runsHold n m accounts credits lasts links
-      unfolding runsHold
-      lasts-short h = simp (le-leb _ _ h1, le-leb _ _ h2, lt-leb _ _ h)
-
-      pub links-tested : n ≤ lasts → leb (linkOctets * m) links ≡ runsHold n m accounts credits lasts links
-      unfolding runsHold
-      links-tested h = simp (le-leb _ _ h1, le-leb _ _ h2, le-leb _ _ h)
-
--- ---- the answer of loading
-module _ (s : List ℕ) (accounts credits lasts links : ℕ) (q : Loaded) (e : q ≡ readImage s) where
-  pub load-refused : (q .code ≡ 0 → ⊥) → q ≡ loadAnswer s accounts credits lasts links
-  unfolding loadAnswer
-  load-refused d = e ∙ simp (ne-eqb _ _ (λ z. d (ap (λ (x : Loaded). x .code) e ∙ z)))
-
-  module _ (z : q .code ≡ 0) (r : Bool) (v : r ≡ runsHold (q .accounts) (q .links) accounts credits lasts links) where
-    held : r ≡ runsHold (readImage s .accounts) (readImage s .links) accounts credits lasts links
-    held = v ∙ ap (λ (x : Loaded). runsHold (x .accounts) (x .links) accounts credits lasts links) e
-
-    pub load-held : r ≡ true → q ≡ loadAnswer s accounts credits lasts links
-    unfolding loadAnswer
-    load-held t = e ∙ simp (eq-eqb _ _ (sym (ap (λ (x : Loaded). x .code) e) ∙ z), ← held, t)
-
-    pub load-short : r ≡ false → (w : Loaded) → w ≡ refused 26 (length s) → w ≡ loadAnswer s accounts credits lasts links
-    unfolding loadAnswer
-    load-short t w u = u ∙ simp (eq-eqb _ _ (sym (ap (λ (x : Loaded). x .code) e) ∙ z), ← held, t)
-
--- by cases of what loading answers
-pub by-loading : (s : List ℕ) (accounts credits lasts links : ℕ) (P : Loaded → Type 0)
-    → ((readImage s .code ≡ 0 → ⊥) → P (readImage s))
-    → (readImage s .code ≡ 0 → runsHold (readImage s .accounts) (readImage s .links) accounts credits lasts links ≡ true → P (readImage s))
-    → (readImage s .code ≡ 0 → runsHold (readImage s .accounts) (readImage s .links) accounts credits lasts links ≡ false → P (refused 26 (length s)))
-    → P (loadAnswer s accounts credits lasts links)
-unfolding loadAnswer
-by-loading s accounts credits lasts links P f g h =
-    split (eqb (readImage s .code) 0)
-    (λ e.
-    split (runsHold (readImage s .accounts) (readImage s .links) accounts credits lasts links)
-    (λ t. simp (e, t) (g (eqb-true _ _ e) t))
-    (λ t. simp (e, t) (h (eqb-true _ _ e) t)))
-    (λ e. simp e (f (eqb-false _ _ e)))
-
-pub few-loaded : (s : List ℕ) (accounts credits lasts links : ℕ) → Few (loadAnswer s accounts credits lasts links)
-few-loaded s accounts credits lasts links =
-    by-loading s accounts credits lasts links Few (λ d. few-read s) (λ e t. few-read s) (λ e t. (omega arith, omega arith))
-
-module _ (s : List ℕ) (accounts credits lasts links : ℕ) (q : Loaded) (e : q ≡ loadAnswer s accounts credits lasts links) where
-  pub few-accounts-loaded : q .accounts ≤ maxAccounts
-  few-accounts-loaded = rw e (few-loaded s accounts credits lasts links .0)
-
-  pub few-links-loaded : q .links ≤ maxLinks
-  few-links-loaded = rw e (few-loaded s accounts credits lasts links .1)

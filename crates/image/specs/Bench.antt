@@ -1,13 +1,12 @@
 -- Image P of the bench sheet (document 01, "Bench sheet"), octet by octet: what it reads as, what its rows say, and what it is the
 -- image of. Proved in proofs/Bench.antt.
-use Prim.Native.Nat.{ℕ, _*_, _^_}
-use mathlib.Core.Bool.{true, false}
-use mathlib.Core.List.{List, [], _∷_, _++_, map}
+use Prim.Native.Nat.{ℕ}
+use mathlib.Core.List.{List, [], _∷_, _++_}
 use mathlib.Core.Path.{_≡_}
 use Rattle.account.specs.Terms.{Terms}
 use Rattle.tables.specs.Rows.{Config, accountIn, linkIn}
 use Rattle.tables.specs.declared.Link.{Link}
-use Rattle.image.specs.Layout.{imageOf, constantGood}
+use Rattle.layout.specs.Layout.{imageOf}
 use Rattle.image.specs.Read.{accountFields, linkFields, readImage}
 use Rattle.image.specs.declared.Loaded.{Loaded}
 
@@ -43,9 +42,3 @@ ImagePReads =
     × (accountIn (accountFields imageP) 0 ≡ termsP)
     × (linkIn (linkFields imageP 1) 0 ≡ rowP)
     × (imageOf configP ≡ imageP)
-
--- constant fields by their first octet: 00, 01, 02 and FC lack a low bit; 03, 07 and FF do not
-abbrev pub ConstantLimits : Type 0
-ConstantLimits =
-    (map constantGood (0 ∷ 1 * 2 ^ 24 ∷ 2 * 2 ^ 24 ∷ 252 * 2 ^ 24 ∷ 3 ∷ []) ≡ false ∷ false ∷ false ∷ false ∷ false ∷ [])
-    × (map constantGood (3 * 2 ^ 24 ∷ 7 * 2 ^ 24 ∷ 255 * 2 ^ 24 ∷ []) ≡ true ∷ true ∷ true ∷ [])

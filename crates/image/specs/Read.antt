@@ -7,9 +7,9 @@ use lib.Dec.{ltb, leb, eqb}
 use Rattle.octets.specs.Choice.{if_then_else_}
 use Rattle.octets.specs.Numbers.{numberAt}
 use Rattle.tables.specs.Leading.{leading}
-use Rattle.tables.specs.Rows.{Rows, accountOctets, linkOctets}
+use Rattle.tables.specs.Rows.{Rows, Config, accountOctets, linkOctets, configOf}
 use Rattle.tables.specs.Rules.{accountGood, linkGood}
-use Rattle.image.specs.Layout.{headTag, accountTag, linkTag, endTag, edition, tagAndLength, headOctets, fieldPlace, dataPlace, imageLength, maxAccounts, maxLinks, editionPlace, constantOf, constantGood}
+use Rattle.layout.specs.Layout.{headTag, accountTag, linkTag, endTag, edition, tagAndLength, headOctets, fieldPlace, dataPlace, imageLength, maxAccounts, maxLinks, editionPlace, constantOf, constantGood}
 use Rattle.image.specs.declared.Loaded.{Loaded}
 
 -- the checks of a field at a place, in document 01's order: 20 without room for tag and length, 21 by the tag, 22 by the length, 20
@@ -100,3 +100,7 @@ unfoldable pub readImage : List ℕ → Loaded
 readImage s =
     if not (eqb (headCode s) 0) then refused (headCode s) 0
     else readEnd s (accountCount s) (linkCount s (accountCount s))
+
+-- what a frame call is lent of an answer ("Accounts and links"): its constant field and counts, with the tables that were filled
+abbrev pub configFor : Loaded → List ℕ → List ℕ → Config
+configFor q accounts links = configOf (q .constant) accounts (q .accounts) links (q .links)

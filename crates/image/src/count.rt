@@ -1,10 +1,10 @@
 // How many accounts and links an image has, and what reading it answers.
 ghost use mathlib.Core.Path.{_≡_};
-ghost use Rattle.image.specs.Read.{accountCount, linkCount, refused, readEnd};
+ghost use Rattle.image.specs.Read.{accountCount, linkCount, readEnd};
 use super::Loaded;
-use super::codes;
 use super::fields;
-use super::layout;
+use super::refused;
+use layout::codes;
 
 // The accounts behind the head, up to the first field that is none or is refused.
 pub(crate) fn count_accounts(image: &[u8]) -> u16
@@ -32,19 +32,6 @@ pub(crate) fn count_links(image: &[u8], accounts: u16) -> u16
         j += 1;
     }
     j
-}
-
-// A refusal: the code and the offset, and zeros.
-pub(crate) fn refused(code: u8, offset: usize) -> Loaded
-    ensures { λ r. ⌜ r ≡ refused code offset ⌝ }
-{
-    Loaded {
-        code,
-        offset,
-        constant: 0,
-        accounts: 0,
-        links: 0,
-    }
 }
 
 // The answer at the field behind so many accounts and links: its code, or what the end says.

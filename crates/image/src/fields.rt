@@ -1,8 +1,7 @@
 // The checks of one field of an image.
 ghost use mathlib.Core.Path.{_≡_};
 ghost use Rattle.image.specs.Read.{fieldCode, headGood, headCode, inOrder, dataOctets, isFull, valuesGood, nextCode, goodField};
-use super::codes;
-use super::layout;
+use layout::codes;
 
 // The code of the field at a place, or 0: of the octets left, the tag, the length, the data, the limit and the values.
 fn field_code(image: &[u8], at: usize, order: bool, size: usize, full: bool, good: bool) -> u8

@@ -10,7 +10,7 @@ use borrow.Author.Tests.{lt-ltb, le-ltb, ltb-true, ltb-false, le-leb, lt-leb, le
 use Rattle.octets.specs.Runs.{put}
 use Rattle.octets.proofs.Tests.{split, both}
 use Rattle.tables.specs.Rows.{Config, accountOctets, linkOctets}
-use Rattle.image.specs.Layout.{maxAccounts, maxLinks, fieldPlace, imageLength, constantGood, imageOf}
+use Rattle.layout.specs.Layout.{maxAccounts, maxLinks, fieldPlace, imageLength, constantGood, imageOf}
 use Rattle.image_writer.specs.Writing.{countGood, countsGood, badAccount, badLink, writtenOf, valueAnswer, writeAnswer, writingOf, writing}
 use Rattle.image_writer.specs.declared.Written.{Written}
 

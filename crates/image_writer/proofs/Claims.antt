@@ -13,11 +13,11 @@ use Rattle.octets.proofs.Runs.{put-fits}
 use Rattle.tables.specs.Rows.{Config, accountTable, linkTable}
 use Rattle.tables.specs.Rules.{accountGood, linkGood}
 use Rattle.tables.proofs.Leading.{leading-is}
-use Rattle.image.specs.Layout.{fieldPlace, imageLength, imageOf}
+use Rattle.layout.specs.Layout.{fieldPlace, imageLength, imageOf}
 use Rattle.image_writer.specs.Writing.{countsGood, badAccount, badLink, writtenOf, valueAnswer, writeAnswer, Writing, writingOf, writing}
 use Rattle.image_writer.specs.Claims.{WriteRefuses, WriteAccepts, FirstBadConstant, FirstBadAccount, FirstBadLink, WriteCodes, RefusedWriteKeeps, WriteOffsets, WritesImage, ImageLength}
 use Rattle.image_writer.proofs.Answers.{writing-answer, counts-bad, room-short, room-enough, constant-bad, account-bad, link-bad, value-bad, by-values, by-writing, writing-refused}
-use Rattle.image_writer.proofs.Laying.{length-image}
+use Rattle.image_octets.proofs.Laying.{length-image}
 
 -- by cases of what writing answers and leaves
 by-write : (g : Config) (d : List ℕ) (P : Writing → Type 0)

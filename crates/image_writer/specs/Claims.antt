@@ -7,7 +7,7 @@ use mathlib.Core.Path.{_≡_}
 use lib.ListN.{length, drop}
 use Rattle.tables.specs.Rows.{Config, accountTable, linkTable}
 use Rattle.tables.specs.Rules.{accountGood, linkGood}
-use Rattle.image.specs.Layout.{fieldPlace, imageLength, constantGood, imageOf}
+use Rattle.layout.specs.Layout.{fieldPlace, imageLength, constantGood, imageOf}
 use Rattle.image_writer.specs.Writing.{countsGood, writtenOf, valueAnswer, writing}
 
 -- demand 1: the codes that writing can answer

@@ -9,12 +9,8 @@ use Rattle.octets.specs.Runs.{put}
 use Rattle.tables.specs.Leading.{leading}
 use Rattle.tables.specs.Rows.{Config, accountOctets, linkOctets, accountTable, linkTable}
 use Rattle.tables.specs.Rules.{accountGood, linkGood}
-use Rattle.image.specs.Layout.{maxAccounts, maxLinks, fieldPlace, imageLength, constantGood, imageOf}
+use Rattle.layout.specs.Layout.{maxAccounts, maxLinks, fieldPlace, imageLength, constantGood, imageOf}
 use Rattle.image_writer.specs.declared.Written.{Written}
-
--- what is written from: the constant field, the rows lent and the counts
-abbrev pub configOf : ℕ → List ℕ → ℕ → List ℕ → ℕ → Config
-configOf c accounts n links m = record { constant = c; accounts = accounts; accountCount = n; links = links; linkCount = m }
 
 -- a count is from 1 to its limit, and rows of w octets are lent for it
 unfoldable pub countGood : ℕ → ℕ → ℕ → ℕ → Bool

@@ -1,12 +1,11 @@
 // Writing a configuration image from a constant field and the first rows of two tables.
 ghost use mathlib.Core.Path.{_≡_};
-ghost use Rattle.image_writer.specs.Writing.{configOf, countGood, countsGood, writeAnswer, writingOf, writing};
+ghost use Rattle.tables.specs.Rows.{configOf};
+ghost use Rattle.image_writer.specs.Writing.{countGood, countsGood, writeAnswer, writingOf, writing};
 
-mod lay;
 mod values;
 
-use image::codes;
-use image::layout;
+use layout::codes;
 
 // What writing answers: the code, and the length of the image or the offset that a bad field would have had.
 pub struct Written {
@@ -96,7 +95,7 @@ pub fn write(
     if answer.code != 0 {
         return answer;
     }
-    lay::put_image(
+    image_octets::put_image(
         constant,
         accounts,
         account_count as u16,

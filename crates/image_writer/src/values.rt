@@ -1,12 +1,11 @@
 // The checks of the values that an image is written from.
 ghost use mathlib.Core.Path.{_≡_};
-ghost use Rattle.tables.specs.Rows.{accountOctets, linkOctets, spacing, accountTable, linkTable};
+ghost use Rattle.tables.specs.Rows.{accountOctets, linkOctets, spacing, accountTable, linkTable, configOf};
 ghost use Rattle.tables.specs.Rules.{accountGood, linkGood};
 ghost use Rattle.tables.specs.Leading.{leading};
-ghost use Rattle.image_writer.specs.Writing.{configOf, valueAnswer};
+ghost use Rattle.image_writer.specs.Writing.{valueAnswer};
 use super::Written;
-use image::codes;
-use image::layout;
+use layout::codes;
 use tables::Spacing;
 
 // Rows of accounts and of links that touch.

@@ -1,12 +1,10 @@
-// Octets and the numbers they spell, the high octet first: reading and writing 2, 4 and 8 of them, the lesser of
-// two counts, and copying a part of a run to a place in another. Every function is total: an octet past the end
-// reads as 0, and what has no room is not written at all.
+// Octets and the numbers they spell, the high octet first: reading 2, 4 and 8 of them, the lesser of two counts, and
+// whether a run has room for another. Every function is total: an octet past the end reads as 0.
 ghost use mathlib.Core.Path.{_≡_};
 ghost use Prim.Native.Nat.{_+_, min};
 ghost use lib.ListN.{getD};
 ghost use lib.Dec.{leb};
-ghost use Rattle.octets.specs.Numbers.{numberAt, octetsOf};
-ghost use Rattle.octets.specs.Runs.{octetsAt, put};
+ghost use Rattle.octets.specs.Numbers.{numberAt};
 
 // The lesser of two counts.
 pub fn least(a: usize, b: usize) -> usize
@@ -60,52 +58,4 @@ pub fn u64_at(s: &[u8], at: usize) -> u64
         return 0;
     }
     (u32_at(s, at) as u64) * 4294967296 + (u32_at(s, at + 4) as u64)
-}
-
-// The two octets of x laid from a place on.
-pub fn put_u16(to: &mut [u8], at: usize, x: u16)
-    ensures { λ r. ⌜ now (to .exit) ≡ put (now (to .entry)) at (octetsOf 2 x) ⌝ }
-{
-    if !has_room(to.len(), at, 2) {
-        return;
-    }
-    to[at] = (x / 256) as u8;
-    to[at + 1] = (x % 256) as u8;
-}
-
-// The four octets of x laid from a place on.
-pub fn put_u32(to: &mut [u8], at: usize, x: u32)
-    ensures { λ r. ⌜ now (to .exit) ≡ put (now (to .entry)) at (octetsOf 4 x) ⌝ }
-{
-    if !has_room(to.len(), at, 4) {
-        return;
-    }
-    put_u16(to, at, (x / 65536) as u16);
-    put_u16(to, at + 2, (x % 65536) as u16);
-}
-
-// The eight octets of x laid from a place on.
-pub fn put_u64(to: &mut [u8], at: usize, x: u64)
-    ensures { λ r. ⌜ now (to .exit) ≡ put (now (to .entry)) at (octetsOf 8 x) ⌝ }
-{
-    if !has_room(to.len(), at, 8) {
-        return;
-    }
-    put_u32(to, at, (x / 4294967296) as u32);
-    put_u32(to, at + 4, (x % 4294967296) as u32);
-}
-
-// A part of a run copied to a place in another: `size` octets from `at` on.
-pub fn copy(from: &[u8], at: usize, size: usize, to: &mut [u8], place: usize)
-    ensures { λ r. ⌜ now (to .exit) ≡ put (now (to .entry)) place (octetsAt size (now (from .entry)) at) ⌝ }
-{
-    if !has_room(to.len(), place, size) {
-        return;
-    }
-    let start = least(at, from.len());
-    let mut i = 0;
-    while i < size {
-        to[place + i] = octet_at(from, start + i);
-        i += 1;
-    }
 }

@@ -12,7 +12,7 @@ fn reading(octets: &[u8]) {
 
 // What the filter takes from the octets.
 fn fields(octets: &[u8]) {
-    say::text(b" |");
+    say::bar();
     say::two(
         frame::constant_field(octets) as u64,
         frame::link_number(octets) as u64,
@@ -22,31 +22,34 @@ fn fields(octets: &[u8]) {
 fn show(octets: &[u8]) {
     say::text(b"frame");
     say::number(octets.len() as u64);
-    say::text(b" ->");
+    say::arrow();
     reading(octets);
     fields(octets);
     say::end();
 }
 
-// A frame of `n` octets with constant field 3, 0, 0, 9, on link 258, with sequence number 77.
-fn read(n: usize) {
+// A frame with constant field 3, 0, 0, 9, on link 258, with sequence number 77 behind so many octets. A remainder keeps
+// each place within the room; no case needs it.
+fn made(before: u16) -> [u8; 1519] {
     let mut octets = [0u8; 1519];
     octets[0] = 3;
     octets[3] = 9;
     octets[4] = 1;
     octets[5] = 2;
-    if 5 <= n {
-        if n <= 1519 {
-            octets[n - 5] = 77;
-            show(&octets[0..n]);
-        }
-    }
+    octets[before as usize % 1519] = 77;
+    octets
+}
+
+// Behind the sequence number come four octets more.
+fn read(before: u16) {
+    let octets = made(before);
+    show(&octets[0..(before as usize + 5) % 1520]);
 }
 
 pub(crate) fn run() {
     say::text(b"# frame octets -> code link sequence payload | constant link\n");
-    read(63);
-    read(64);
-    read(1518);
-    read(1519);
+    read(63 - 5);
+    read(64 - 5);
+    read(1518 - 5);
+    read(1519 - 5);
 }

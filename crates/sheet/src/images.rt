@@ -8,44 +8,49 @@ use image::Loaded;
 // The head of image P.
 pub(crate) const HEAD: u64 = 0x01_0005_01_0300_0000;
 
-// Accounts with Smax 200, 201 and so on, the rest as in image P.
-fn put_accounts(room: &mut [u8], n: u8) {
-    let mut i: u8 = 0;
+// So many fields of `step` octets from `at` on: eight octets whose number at 3 rises by one from field to field, and eight
+// behind them.
+fn put_fields(room: &mut [u8], at: u16, step: u8, n: u16, x: u64, y: u64) {
+    let mut place = at as usize;
+    let mut i: u16 = 0;
     while i < n {
-        octets::put_u64(
-            room,
-            8 + 9 * i as usize,
-            0x0200_0600_C800_01F4 + 0x0100_0000 * i as u64,
-        );
+        let first = std::num::wrapping_add_u64(x, 0x0100_0000 * i as u64);
+        laying::put_u64(room, place, first);
+        laying::put_u64(room, place + 8, y);
+        place += step as usize;
         i += 1;
     }
 }
 
-// Links with numbers 7, 8 and so on, the rest as in image P, from `at` on.
-fn put_links(room: &mut [u8], at: u16, m: u16) {
-    let mut j: u16 = 0;
-    while j < m {
-        let place = at as usize + 16 * j as usize;
-        octets::put_u64(room, place, 0x0300_0D00_0702_0000 + 0x0100_0000 * j as u64);
-        octets::put_u64(room, place + 8, 0x0008_0040_00C8_0000);
-        j += 1;
-    }
+// The image of `n` accounts and `m` links; that of one and one is image P. The accounts have Smax 200, 201 and so on, the
+// links numbers 7, 8 and so on, the rest is as in image P.
+fn whole(n: u8, m: u16) -> [u8; 4720] {
+    let links = 8 + 9 * n as u16;
+    let mut image = [0u8; 4720];
+    laying::put_u64(&mut image, 0, HEAD);
+    put_fields(&mut image, 8, 9, n as u16, 0x0200_0600_C800_01F4, 0);
+    put_fields(
+        &mut image,
+        links,
+        16,
+        m,
+        0x0300_0D00_0702_0000,
+        0x0008_0040_00C8_0000,
+    );
+    image
 }
 
-// The image of `n` accounts and `m` links with eight octets changed; that of one and one is image P.
+// The same with its end, and with eight octets changed.
 pub(crate) fn changed(n: u8, m: u16, at: usize, x: u64) -> [u8; 4720] {
-    let mut image = [0u8; 4720];
-    octets::put_u64(&mut image, 0, HEAD);
-    put_accounts(&mut image, n);
-    put_links(&mut image, 8 + 9 * n as u16, m);
-    octets::put_u16(&mut image, 8 + 9 * n as usize + 16 * m as usize, 0x0900);
-    octets::put_u64(&mut image, at, x);
+    let mut image = whole(n, m);
+    laying::put_u16(&mut image, 8 + 9 * n as usize + 16 * m as usize, 0x0900);
+    laying::put_u64(&mut image, at, x);
     image
 }
 
 pub(crate) fn label(n: u8, m: u16, size: usize, at: usize, x: u64) {
     let mut octets = [0u8; 8];
-    octets::put_u64(&mut octets, 0, x);
+    laying::put_u64(&mut octets, 0, x);
     say::text(b"image");
     say::two(n as u64, m as u64);
     say::two(size as u64, at as u64);
@@ -53,9 +58,9 @@ pub(crate) fn label(n: u8, m: u16, size: usize, at: usize, x: u64) {
 }
 
 pub(crate) fn answer(a: Loaded) {
-    say::text(b" ->");
+    say::arrow();
     say::two(a.code as u64, a.offset as u64);
-    say::text(b" |");
+    say::bar();
     say::three(a.constant as u64, a.accounts as u64, a.links as u64);
 }
 
@@ -209,7 +214,7 @@ fn load_into(image: &[u8], a: usize, c: usize, t: usize, l: usize) {
     let mut credits = [7u32; 2];
     let mut lasts = [9u64; 2];
     let mut links = [187u8; 26];
-    answer(image::load(
+    answer(loader::load(
         image,
         &mut accounts[0..a % 13],
         &mut credits[0..c % 3],

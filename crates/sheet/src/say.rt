@@ -37,3 +37,16 @@ pub(crate) fn octets(words: &[u8], run: &[u8]) {
 pub(crate) fn end() {
     text(b"\n");
 }
+
+// Before what comes back, between its parts, and where there is no number.
+pub(crate) fn arrow() {
+    text(b" ->");
+}
+
+pub(crate) fn bar() {
+    text(b" |");
+}
+
+pub(crate) fn none() {
+    text(b" -");
+}

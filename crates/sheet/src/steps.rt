@@ -5,24 +5,30 @@ use account::Outcome;
 
 const LAST_TIME: u64 = 18446744073709551615;
 
+fn refusal(code: u8) {
+    say::number(code as u64);
+    say::none();
+}
+
 fn show(outcome: Outcome) {
     match outcome {
         Outcome::Forwarded(credit) => say::two(0, credit as u64),
         Outcome::Short(credit) => say::two(9, credit as u64),
         Outcome::Late(credit) => say::two(8, credit as u64),
-        Outcome::Refused(code) => {
-            say::number(code as u64);
-            say::text(b" -");
-        }
+        Outcome::Refused(code) => refusal(code),
     }
+}
+
+fn label(octets: usize, time: u64) {
+    say::text(b"step");
+    say::two(octets as u64, time);
+    say::arrow();
 }
 
 fn step(a: Account, octets: usize, time: u64) -> Account {
     let p = a.police(octets, time);
     let outcome = p.outcome;
-    say::text(b"step");
-    say::two(octets as u64, time);
-    say::text(b" ->");
+    label(octets, time);
     show(outcome);
     say::end();
     p.account
@@ -84,23 +90,33 @@ fn short_stores() {
     step(c, 199, 499);
 }
 
+// An account with the largest of all values.
+fn largest() -> Account {
+    account_of(1518, 7, 10000, 0, 209484000)
+}
+
+fn step_largest(octets: usize) {
+    step(largest(), octets, 0);
+}
+
+fn cost_largest(octets: usize) {
+    say::text(b"cost");
+    say::two(octets as u64, largest().cost(octets) as u64);
+    say::end();
+}
+
 // Both sides of both frame sizes.
 fn sizes() {
     say::text(b"# sizes\n");
-    let a = account_of(1518, 7, 10000, 0, 209484000);
-    figure(b"capacity", a.capacity());
-    step(a, 63, 0);
-    step(a, 64, 0);
-    step(a, 1518, 0);
-    step(a, 1519, 0);
-    costs(a);
-}
-
-fn costs(a: Account) {
-    figure(b"cost 63", a.cost(63));
-    figure(b"cost 64", a.cost(64));
-    figure(b"cost 1518", a.cost(1518));
-    figure(b"cost 1519", a.cost(1519));
+    figure(b"capacity", largest().capacity());
+    step_largest(63);
+    step_largest(64);
+    step_largest(1518);
+    step_largest(1519);
+    cost_largest(63);
+    cost_largest(64);
+    cost_largest(1518);
+    cost_largest(1519);
 }
 
 // A step of 64 octets at 0 on an account of these values.
@@ -137,13 +153,41 @@ fn order() {
     step(sound, 64, 500);
 }
 
-// The methods by themselves: a short credit stays, an earlier time or an unsound account changes nothing.
-fn methods() {
-    say::text(b"# methods\n");
-    let empty = image_p(0).debit(200).debit(100);
-    figure(b"debit 200, 100", empty.credit);
-    figure(b"debit 64 more", empty.debit(64).credit);
-    top_ups(empty.top_up(320));
+// The account of image P, its credit taken by two debits.
+fn spent() -> Account {
+    image_p(0).debit(200).debit(100)
+}
+
+// A short credit stays.
+fn debits() {
+    figure(b"debit 200, 100", spent().credit);
+    figure(b"debit 64 more", spent().debit(64).credit);
+}
+
+fn top_up(a: Account, time: u64) -> Account {
+    let b = a.top_up(time);
+    say::text(b"top up to");
+    say::two(time, b.credit as u64);
+    say::end();
+    b
+}
+
+fn last_after_debit(a: Account) {
+    say::text(b"last time after a debit");
+    say::number(a.debit(64).last);
+    say::end();
+}
+
+// An earlier time changes nothing.
+fn top_ups() {
+    let a = top_up(spent(), 320);
+    last_after_debit(a);
+    top_up(a, 319);
+    top_up(a, 1820);
+}
+
+// Nor does anything change an unsound account.
+fn unsound() {
     figure(
         b"top up, unsound",
         account_of(63, 0, 0, 0, 7).top_up(1).credit,
@@ -154,13 +198,12 @@ fn methods() {
     );
 }
 
-fn top_ups(topped: Account) {
-    figure(b"top up to 320", topped.credit);
-    say::text(b"last time after a debit");
-    say::number(topped.debit(64).last);
-    say::end();
-    figure(b"top up to 319", topped.top_up(319).credit);
-    figure(b"top up to 1820", topped.top_up(1820).credit);
+// The methods by themselves.
+fn methods() {
+    say::text(b"# methods\n");
+    debits();
+    top_ups();
+    unsound();
 }
 
 pub(crate) fn run() {

@@ -8,23 +8,23 @@ use tables::Found;
 const MOST: usize = 18446744073709551615;
 
 fn answer(w: Written) {
-    say::text(b" |");
+    say::bar();
     say::two(w.code as u64, w.offset as u64);
 }
 
 // Two account rows, and a third without its last octet.
 fn account_rows(image: &[u8]) -> [u8; 17] {
     let mut rows = [0u8; 17];
-    octets::copy(image, 11, 6, &mut rows, 0);
-    octets::copy(image, 20, 6, &mut rows, 6);
+    laying::copy(image, 11, 6, &mut rows, 0);
+    laying::copy(image, 20, 6, &mut rows, 6);
     rows
 }
 
 // Two link rows, and a third without its last octet.
 fn link_rows(image: &[u8]) -> [u8; 38] {
     let mut rows = [0u8; 38];
-    octets::copy(image, 29, 13, &mut rows, 0);
-    octets::copy(image, 45, 13, &mut rows, 13);
+    laying::copy(image, 29, 13, &mut rows, 0);
+    laying::copy(image, 45, 13, &mut rows, 13);
     rows
 }
 
@@ -225,20 +225,29 @@ fn limits() {
     limit(64, 257);
 }
 
-// Looks for a number among so many of the rows 7, 8, 8, and 9 without its last octet.
-fn find(count: usize, number: u16) {
+// The link rows 7, 8, 8, and 9 without its last octet.
+fn rows() -> [u8; 51] {
     let mut rows = [0u8; 51];
     rows[1] = 7;
     rows[14] = 8;
     rows[27] = 8;
     rows[40] = 9;
+    rows
+}
+
+fn row(found: Found) {
+    match found {
+        Found::At(row) => say::number(row as u64),
+        Found::Nowhere => say::none(),
+    }
+}
+
+// Looks for a number among so many of these rows.
+fn find(count: usize, number: u16) {
     say::text(b"find");
     say::two(count as u64, number as u64);
-    say::text(b" ->");
-    match tables::find(&rows, count, number) {
-        Found::At(row) => say::number(row as u64),
-        Found::Nowhere => say::text(b" -"),
-    }
+    say::arrow();
+    row(tables::find(&rows(), count, number));
     say::end();
 }
 

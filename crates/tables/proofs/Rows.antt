@@ -13,7 +13,7 @@ use Rattle.octets.specs.Runs.{octetsAt}
 use Rattle.octets.proofs.Parts.{getD-clamped, part-octet}
 use Rattle.account.specs.Terms.{Terms}
 use Rattle.tables.specs.Leading.{leading}
-use Rattle.tables.specs.Rows.{accountOctets, linkOctets, termsAt, linkAt, linksInUse, otherNumber, found}
+use Rattle.tables.specs.Rows.{accountOctets, linkOctets, termsAt, linkAt, linkTable, linksInUse, otherNumber, foundIn, found}
 use Rattle.tables.specs.declared.Link.{Link}
 use Rattle.tables.specs.declared.Found.the-variants.{At, Nowhere}
 use Rattle.tables.proofs.Leading.{leading-on, leading-stop}
@@ -65,26 +65,26 @@ row-inside links count rows i e h =
     let d : linkOctets * (length links / linkOctets) ≤ length links = rw (mul-comm linkOctets (length links / linkOctets)) (div-mul-le-self (length links) linkOctets) in
     omega arith
 
-module _ (links : List ℕ) (count x rows : ℕ) (e : rows ≡ linksInUse links count) (i : ℕ) (s : leading (otherNumber links x) i ≡ i) where
+module _ (links : List ℕ) (count x rows : ℕ) (e : rows ≡ linksInUse links count) (i : ℕ) (s : leading (otherNumber (linkTable links) x) i ≡ i) where
   module _ (h : i < rows) (r : ℕ) (v : r ≡ numberAt 2 links (linkOctets * i)) where
     number-is : linkAt links (0 + linkOctets * i) .number ≡ r
     unfolding linkAt
     number-is = ap (numberAt 2 links) (zero-add (linkOctets * i)) ∙ sym v
 
-    pub search-on : (r ≡ x → ⊥) → leading (otherNumber links x) (suc i) ≡ suc i
-    search-on d = leading-on (otherNumber links x) i s (ap not (ne-eqb _ _ (λ q. d (sym number-is ∙ q))))
+    pub search-on : (r ≡ x → ⊥) → leading (otherNumber (linkTable links) x) (suc i) ≡ suc i
+    search-on d = leading-on (otherNumber (linkTable links) x) i s (ap not (ne-eqb _ _ (λ q. d (sym number-is ∙ q))))
 
     pub search-hit : r ≡ x → At i ≡ found links count x
-    unfolding found
+    unfolding foundIn
     search-hit q =
-        let f : leading (otherNumber links x) rows ≡ i = leading-stop (otherNumber links x) i rows s (ap not (eq-eqb _ _ (number-is ∙ q))) h in
+        let f : leading (otherNumber (linkTable links) x) rows ≡ i = leading-stop (otherNumber (linkTable links) x) i rows s (ap not (eq-eqb _ _ (number-is ∙ q))) h in
         rw (← e, f) (simp (lt-ltb _ _ h))
 
   pub search-miss : rows ≤ i → i ≤ rows → Nowhere ≡ found links count x
-  unfolding found
+  unfolding foundIn
   search-miss h k =
       let m : i ≡ rows = omega arith in
-      let f : leading (otherNumber links x) rows ≡ rows = rw m at s in
+      let f : leading (otherNumber (linkTable links) x) rows ≡ rows = rw m at s in
       rw (← e, f) (simp (le-ltb rows rows (omega arith)))
 
 -- ---- the same rows of octets have the same values

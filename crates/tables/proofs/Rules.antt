@@ -64,6 +64,12 @@ module _ (l : Link) (n smax : ℕ) where
   unfolding linkSound
   sound-account e = ltb-true _ _ (both (ltb (l .account) n) _ (both _ (sizesSound (l .smallest) (l .largest) smax) e .0) .0)
 
+  pub sound-port : linkSound l n smax ≡ true → l .port < portCount
+  unfolding linkSound portsSound
+  sound-port e =
+      let p = both (ltb (l .account) n) (portsSound (l .port) (l .mask)) (both _ (sizesSound (l .smallest) (l .largest) smax) e .0) .1 in
+      ltb-true _ _ (both (ltb (l .port) portCount) _ (both _ (eqb (l .mask / 2 ^ l .port % 2) 0) p .0) .0)
+
 -- ---- rows with the same values
 pub account-good-same : (a b : Rows) (i j : ℕ) → accountIn a i ≡ accountIn b j → accountGood a i ≡ accountGood b j
 unfolding accountGood

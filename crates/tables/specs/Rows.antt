@@ -76,15 +76,18 @@ linkTable s = tableOf linkOctets s
 abbrev pub linksInUse : List ℕ → ℕ → ℕ
 linksInUse links count = min count (length links / linkOctets)
 
--- the first row in use that has the number ("Codes, in order of checking": the first row counts)
-abbrev pub otherNumber : List ℕ → ℕ → ℕ → Bool
-otherNumber links x j = not (eqb (linkIn (linkTable links) j .number) x)
+-- the first of n link rows that has a number ("Codes, in order of checking": the first row counts); and of the rows in use
+abbrev pub otherNumber : Rows → ℕ → ℕ → Bool
+otherNumber l x j = not (eqb (linkIn l j .number) x)
 
-abbrev pub rowOf : List ℕ → ℕ → ℕ → ℕ
-rowOf links count x = leading (otherNumber links x) (linksInUse links count)
+abbrev pub rowOf : Rows → ℕ → ℕ → ℕ
+rowOf l n x = leading (otherNumber l x) n
 
-unfoldable pub found : List ℕ → ℕ → ℕ → Found
-found links count x = if ltb (rowOf links count x) (linksInUse links count) then At (rowOf links count x) else Nowhere
+unfoldable pub foundIn : Rows → ℕ → ℕ → Found
+foundIn l n x = if ltb (rowOf l n x) n then At (rowOf l n x) else Nowhere
+
+abbrev pub found : List ℕ → ℕ → ℕ → Found
+found links count x = foundIn (linkTable links) (linksInUse links count) x
 
 -- the constant field, the tables and the counts that go with them: what an image is written from, and what a frame call is lent
 pub record Config : Type 0 where
@@ -93,3 +96,6 @@ pub record Config : Type 0 where
   pub accountCount : ℕ
   pub links : List ℕ
   pub linkCount : ℕ
+
+abbrev pub configOf : ℕ → List ℕ → ℕ → List ℕ → ℕ → Config
+configOf c accounts n links m = record { constant = c; accounts = accounts; accountCount = n; links = links; linkCount = m }

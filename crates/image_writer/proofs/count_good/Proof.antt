@@ -1,7 +1,7 @@
 -- `count_good`: test by test; the product is below the limit times a row. Assumes nothing.
 use native.Mathlib.Omega.{arith}
 use Rattle.image_writer.proofs.Answers.{count-none, count-over, count-tested}
-use Rattle.image.proofs.Filling.{small-product}
+use Rattle.layout.proofs.Places.{small-product}
 use Rattle.image_writer.proofs.count_good.Statement.{statement}
 use Rattle.image_writer.proofs.count_good.Tie as tie
 

@@ -4,7 +4,7 @@ use mathlib.Core.Path.{_≡_}
 use native.Mathlib.Numerals.{add-one}
 use native.Mathlib.Omega.{arith}
 use Rattle.tables.specs.Leading.{leading}
-use Rattle.tables.specs.Rows.{otherNumber}
+use Rattle.tables.specs.Rows.{linkTable, otherNumber}
 use Rattle.tables.proofs.Leading.{leading-zero}
 use Rattle.tables.proofs.Rows.{row-inside, search-on, search-hit, search-miss}
 use borrow.Author.Needs.{needs}
@@ -12,7 +12,7 @@ use Rattle.tables.proofs.find.Statement.{statement}
 use Rattle.tables.proofs.find.Tie as tie
 
 abbrev Inv-loop : tie.InvT-loop
-Inv-loop links count number rows i₀ i = (i ≤ rows) × (leading (otherNumber links number) i ≡ i)
+Inv-loop links count number rows i₀ i = (i ≤ rows) × (leading (otherNumber (linkTable links) number) i ≡ i)
 
 abbrev μ-loop : tie.MeasureT-loop
 μ-loop links count number rows i₀ i = rows - i
@@ -21,7 +21,7 @@ least-requires : tie.Need-least-requires Inv-loop μ-loop
 least-requires c κs = search needs
 
 loop-holds : tie.Need-loop-holds Inv-loop μ-loop
-loop-holds c = (omega arith, leading-zero (otherNumber (c .before .before .args .links .now) (c .before .before .args .number)))
+loop-holds c = (omega arith, leading-zero (otherNumber (linkTable (c .before .before .args .links .now)) (c .before .before .args .number)))
 
 mul-u16-at : tie.Need-mul-u16-at Inv-loop μ-loop
 mul-u16-at c = omega (arith, row-inside (c .before .before .before .before .args .links .now) (c .before .before .before .before .args .count) _ _ (c .before .before .least .ensures) (c .loop-test .taken))

@@ -5,7 +5,7 @@ use native.Mathlib.Numerals.{add-one}
 use native.Mathlib.Omega.{arith}
 use Rattle.tables.specs.Leading.{leading}
 use Rattle.tables.proofs.Leading.{leading-zero, count-stops, count-goes-on, count-full}
-use Rattle.image.specs.Layout.{linkTag, maxLinks}
+use Rattle.layout.specs.Layout.{linkTag, maxLinks}
 use Rattle.image.specs.Read.{goodField, linkCount}
 use borrow.Author.Needs.{needs}
 use Rattle.image.proofs.count.count_links.Statement.{statement}

@@ -3,7 +3,7 @@ use Prim.Native.Nat.{_+_, _≤_}
 use native.Mathlib.Omega.{arith}
 use lib.ListN.{length}
 use Rattle.octets.proofs.Tests.{has-room, no-room}
-use Rattle.image.specs.Layout.{tagAndLength}
+use Rattle.layout.specs.Layout.{tagAndLength}
 use Rattle.image.proofs.Checks.{code-short, code-order, code-length, code-cut, code-full, code-good, code-bad}
 use borrow.Author.Needs.{needs}
 use Rattle.image.proofs.fields.field_code.Statement.{statement}

@@ -1,0 +1,147 @@
+-- The bench table: computed from one set of fresh tables, and the same from every load, since the image settles the answers. Assumes
+-- nothing.
+use Prim.Native.Nat.{ℕ, _-_, _^_, _<_}
+use mathlib.Core.Bool.{true}
+use mathlib.Core.List.{List, [], _∷_}
+use mathlib.Core.Path.{_≡_, refl, sym, ap, _∙_}
+use lib.ListN.{getD, set}
+use lib.Dec.{lit<}
+use Rattle.octets.specs.Numbers.{numberAt}
+use Rattle.octets.specs.Runs.{octetsAt, joined}
+use Rattle.frame.specs.Frame.{lengthCode}
+use Rattle.account.specs.Terms.{byteMode, frameMode, inLimits, bag, charge, rate, capacity, charged, cost}
+use Rattle.account.specs.Account.{valid, creditAt}
+use Rattle.account.specs.Step.{judged, policed}
+use Rattle.rule.specs.Bench.{Case, termsP, byteCases, frameCases}
+use Rattle.tables.specs.Leading.{leading}
+use Rattle.tables.specs.Rows.{Config, termsAt, linkAt, foundIn, accountIn}
+use Rattle.tables.specs.Rules.{portsSound, sizesSound, linkSound, accountGood, numberRises, linkGood}
+use Rattle.layout.specs.Layout.{fieldPlace, constantGood}
+use Rattle.image.specs.Read.{accountFields, fieldCode, headGood, headCode, inOrder, dataOctets, isFull, valuesGood, nextCode, goodField, accountCount, linkCount, readEnd, readImage, configFor}
+use Rattle.loader.specs.Loading.{Runs, runsOf, accountRows, linkRows, capacities, longEnough, loading}
+use Rattle.loader.specs.Fresh.{Begins, Fresh}
+use Rattle.image.specs.Bench.{accountP, linkP, imageP, answerP}
+use Rattle.image.specs.declared.Loaded.{Loaded}
+use Rattle.loader.proofs.Fresh.{load-accepts, fresh-holds, fresh-sound}
+use Rattle.image.proofs.Bench.{image-p-reads}
+use Rattle.trips.specs.Trips.{loadedTables}
+use Rattle.switch.specs.Filter.{frameCode, portCode}
+use Rattle.switch.specs.Call.{State, stateOf, inUse, accountHeld, decided, called}
+use Rattle.demands.specs.History.{answers, final, configIn, stateIn}
+use Rattle.demands.specs.Rule.{imageTerms, meant}
+use Rattle.demands.specs.Demand3.{MeantLimits}
+use Rattle.demands.specs.Bench.{frameImageP, calls, verdicts, replied, left, CallBenchTable}
+use Rattle.demands.proofs.Tables.{tables}
+use Rattle.demands.proofs.Rule.{history-verdicts, starts}
+use Rattle.demands.proofs.Words.{loaded-fresh, loaded-config}
+use Rattle.demands.proofs.Isolation.{isolation-of-fresh-tables}
+
+-- ---- fresh tables of each image, written out
+abbrev accountP1 : List ℕ
+accountP1 = set accountP 5 1
+
+abbrev runs-of : List ℕ → Runs
+runs-of account = runsOf account (300000 ∷ []) (0 ∷ []) linkP
+
+frame-p-reads : readImage frameImageP ≡ answerP
+unfolding numberAt inLimits leading termsAt linkAt portsSound sizesSound linkSound accountGood numberRises linkGood fieldPlace constantGood fieldCode headGood headCode inOrder dataOctets isFull valuesGood nextCode goodField accountCount linkCount readEnd readImage
+frame-p-reads = refl
+
+-- an image that reads as image P does, by its rows
+fresh-by : (s account : List ℕ) → readImage s ≡ answerP → Begins (accountRows s 1) account → Begins (capacities (accountFields s) 1) (300000 ∷ [])
+    → Begins (linkRows s 1 1) linkP → Fresh s (runs-of account)
+fresh-by s account e a c l =
+    record {
+      accepted = ap (λ (q : Loaded). q .code) e;
+      accounts = rw e a;
+      credits = rw e c;
+      lasts = rw e refl;
+      links = rw e l;
+    }
+
+fresh-p : Fresh imageP (runs-of accountP)
+unfolding accountRows capacities linkRows joined octetsAt fieldPlace termsAt numberAt capacity rate charge bag
+fresh-p = fresh-by imageP accountP (image-p-reads .0) refl refl refl
+
+fresh-frame-p : Fresh frameImageP (runs-of accountP1)
+unfolding accountRows capacities linkRows joined octetsAt fieldPlace termsAt numberAt capacity rate charge bag
+fresh-frame-p = fresh-by frameImageP accountP1 frame-p-reads refl refl refl
+
+-- ---- the answers from these, computed
+abbrev config-by : List ℕ → Loaded → Config
+config-by account q = configFor q account linkP
+
+abbrev full : State
+full = stateOf (300000 ∷ []) (0 ∷ [])
+
+computed : answers (config-by accountP answerP) full (calls byteCases) ≡ verdicts byteCases
+unfolding answers called frameCode lengthCode numberAt foundIn leading linkAt accountHeld termsAt inUse decided portsSound sizesSound linkSound inLimits bag charge rate capacity charged cost valid creditAt judged policed portCode
+computed = refl
+
+computed-frame : answers (config-by accountP1 answerP) full (calls frameCases) ≡ verdicts frameCases
+unfolding answers called frameCode lengthCode numberAt foundIn leading linkAt accountHeld termsAt inUse decided portsSound sizesSound linkSound inLimits bag charge rate capacity charged cost valid creditAt judged policed portCode
+computed-frame = refl
+
+-- ---- and from every load
+module _ (s account : List ℕ) (e : readImage s ≡ answerP) (fresh : Fresh s (runs-of account)) (r : Runs) (long : longEnough 1 1 r ≡ true) where
+  answer : loading s r .answer ≡ readImage s
+  answer = load-accepts s r (ap (λ (q : Loaded). q .code) e) (rw e long)
+
+  accepted : loading s r .answer .code ≡ 0
+  accepted = ap (λ (q : Loaded). q .code) (answer ∙ e)
+
+  -- two fresh starts of one image answer alike
+  from-any : (cases : List Case) → replied s r cases ≡ answers (config-by account answerP) full (calls cases)
+  from-any cases =
+      let f = loaded-fresh s r accepted in
+      ap (λ (g : Config). answers g (stateIn (loading s r .runs)) (calls cases)) (loaded-config s r accepted)
+      ∙ history-verdicts s _ (tables s _ f) (calls cases) _ [] (starts s _ f)
+      ∙ sym (history-verdicts s _ (tables s (runs-of account) fresh) (calls cases) _ [] (starts s (runs-of account) fresh))
+      ∙ ap (λ (q : Loaded). answers (config-by account q) full (calls cases)) e
+
+  -- and leave the same
+  left-any : (cases : List Case)
+      → (getD (left s r cases .credits) 0 0 ≡ getD (final (config-by account answerP) full (calls cases) .credits) 0 0)
+      × (getD (left s r cases .lasts) 0 0 ≡ getD (final (config-by account answerP) full (calls cases) .lasts) 0 0)
+  left-any cases =
+      let f = loaded-fresh s r accepted in
+      let one : 0 < readImage s .accounts = rw e (lit< tt) in
+      let same = isolation-of-fresh-tables s 0 one (loading s r .runs) f (calls cases) (runs-of account) fresh (calls cases) refl in
+      let g : loadedTables s r ≡ configIn s (loading s r .runs) = loaded-config s r accepted in (
+        ap (λ (c : Config). getD (final c (stateIn (loading s r .runs)) (calls cases) .credits) 0 0) g ∙ same .credit
+            ∙ ap (λ (q : Loaded). getD (final (config-by account q) full (calls cases) .credits) 0 0) e,
+        ap (λ (c : Config). getD (final c (stateIn (loading s r .runs)) (calls cases) .lasts) 0 0) g ∙ same .last
+            ∙ ap (λ (q : Loaded). getD (final (config-by account q) full (calls cases) .lasts) 0 0) e,
+      )
+
+computed-left : final (config-by accountP answerP) full (calls byteCases) ≡ stateOf (100000 ∷ []) ((2 ^ 64 - 1) ∷ [])
+unfolding final called frameCode lengthCode numberAt foundIn leading linkAt accountHeld termsAt inUse decided portsSound sizesSound linkSound inLimits bag charge rate capacity charged cost valid creditAt judged policed portCode
+computed-left = refl
+
+terms-p : (imageTerms imageP 0 ≡ termsP byteMode) × (imageTerms frameImageP 0 ≡ termsP frameMode)
+unfolding termsAt numberAt fieldPlace
+terms-p = (refl, refl)
+
+capacity-p : capacity (accountIn (accountFields imageP) 0) ≡ 300000
+unfolding capacity rate charge bag termsAt numberAt fieldPlace
+capacity-p = refl
+
+pub call-bench-table : CallBenchTable
+call-bench-table r long =
+    let e = image-p-reads .0 in
+    let z = accepted imageP accountP e fresh-p r long in
+    let f = loaded-fresh imageP r z in
+    let one : 0 < readImage imageP .accounts = rw e (lit< tt) in (
+      answer imageP accountP e fresh-p r long ∙ e,
+      terms-p .0,
+      terms-p .1,
+      fresh-sound imageP (loading imageP r .runs) f .full 0 one ∙ ap capacity (fresh-holds imageP (loading imageP r .runs) f .accounts 0 one) ∙ capacity-p,
+      from-any imageP accountP e fresh-p r long byteCases ∙ computed,
+      left-any imageP accountP e fresh-p r long byteCases .0 ∙ ap (λ (q : State). getD (q .credits) 0 0) computed-left,
+      left-any imageP accountP e fresh-p r long byteCases .1 ∙ ap (λ (q : State). getD (q .lasts) 0 0) computed-left,
+      from-any frameImageP accountP1 frame-p-reads fresh-frame-p r long frameCases ∙ computed-frame,
+    )
+
+pub meant-limits : MeantLimits
+unfolding meant foundIn numberAt inLimits leading termsAt linkAt portsSound sizesSound linkSound accountGood numberRises linkGood fieldPlace constantGood fieldCode headGood headCode inOrder dataOctets isFull valuesGood nextCode goodField accountCount linkCount readEnd readImage
+meant-limits = (refl, refl, refl)

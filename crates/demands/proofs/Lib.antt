@@ -1,0 +1,8 @@
+pub mod Bench
+pub mod Demands
+pub mod Filter
+pub mod Isolation
+pub mod Lists
+pub mod Rule
+pub mod Tables
+pub mod Words

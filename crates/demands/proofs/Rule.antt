@@ -1,0 +1,290 @@
+-- Demand 3's first half. Each account stays the one that the frames which reached it leave, so that every call answers with the code of
+-- the rule, and with data that the image and those frames settle. Assumes nothing.
+use Prim.Native.Nat.{ℕ, _+_, _*_, _/_, _≤_, _<_, min}
+use mathlib.Core.Bool.{Bool, true, false, not}
+use mathlib.Core.List.{List, [], _∷_, _++_, map, map-append, append-nil}
+use mathlib.Core.Path.{_≡_, refl, sym, ap, ap₂, _∙_, subst}
+use native.Mathlib.Omega.{arith}
+use lib.ListN.{length, getD, set, length-set}
+use lib.Seq.{append-snoc, getD-set-same, getD-set-other}
+use lib.Dec.{eqb}
+use borrow.Author.Tests.{eq-eqb, ne-eqb, eqb-true, eqb-false}
+use Rattle.octets.specs.Choice.{if_then_else_}
+use Rattle.octets.proofs.Tests.{split}
+use Rattle.frame.specs.Frame.{lengthCode}
+use Rattle.account.specs.Terms.{Terms, inLimits}
+use Rattle.account.specs.Account.{accountOf, valid}
+use Rattle.account.specs.Step.{policed}
+use Rattle.rule.specs.Bucket.{Reached}
+use Rattle.rule.specs.Rule.{Arrival, ruleArrived, ruleStep, rulePast}
+use Rattle.account.specs.declared.Account.{Account}
+use Rattle.rule.proofs.Rule.{Sound, state, Agree, step-arrived, state-valid, arrival, state-loaded}
+use Rattle.account.proofs.Step.{policed-keeps}
+use Rattle.tables.specs.Rows.{Config, accountOctets, accountTable, accountIn}
+use Rattle.tables.specs.Rules.{linkSound}
+use Rattle.tables.specs.declared.Found.{Found}
+use Rattle.tables.specs.declared.Found.the-variants.{At, Nowhere}
+use Rattle.tables.specs.declared.Link.{Link}
+use Rattle.tables.proofs.Rules.{sound-account}
+use Rattle.image.specs.Read.{readImage}
+use Rattle.loader.specs.Loading.{Runs}
+use Rattle.loader.specs.Fresh.{Fresh}
+use Rattle.switch.specs.Filter.{portCode}
+use Rattle.switch.specs.Verdict.{Told, told, withMask}
+use Rattle.switch.specs.Call.{State, stateOf, Call, After, accountsInUse, inUse, accountHeld, Decided, kept, decided, stored, refusedWith, onLink, called}
+use Rattle.switch.specs.declared.Verdict.the-variants.{Refused}
+use Rattle.switch.proofs.Filter.{frame-zero}
+use Rattle.switch.proofs.Call.{held-again, decided-refused, decided-policed}
+use Rattle.demands.specs.History.{answers, final, codes, configIn, stateIn, only}
+use Rattle.demands.specs.Rule.{imageTerms, imageLink, linkRow, filterCode, passing, arrivalOf, reachedIn, accountNamed, ruleCode, ruleCodesAfter, ruleCodes}
+use Rattle.demands.specs.Demand3.{RuleOfFreshTables}
+use Rattle.demands.proofs.Lists.{only-more, only-same, rule-snoc}
+use Rattle.demands.proofs.Tables.{Tables, tables, long, starts-loaded}
+use Rattle.demands.proofs.Filter.{frame-code, filter-frame, filter-unknown, filter-link, by-filter, passes-none, passes-link, call-frame, call-nowhere, call-link}
+
+-- ---- the frames that reached an account, with one call more
+module _ (s : List ℕ) (before : List Call) (f : Call) (a : ℕ) where
+  pub reached-same : passing s a f ≡ false → reachedIn s (before ++ (f ∷ [])) a ≡ reachedIn s before a
+  unfolding reachedIn
+  reached-same e = ap (λ (h : List Call). rulePast (imageTerms s a) [] (map arrivalOf h)) (only-same (passing s a) before f e)
+
+  pub reached-more : passing s a f ≡ true → lengthCode (length (f .octets)) ≡ 0
+      → reachedIn s (before ++ (f ∷ [])) a ≡ ruleArrived (imageTerms s a) (reachedIn s before a) (length (f .octets)) (f .time) .past
+  unfolding reachedIn
+  reached-more e z =
+      ap (λ (h : List Call). rulePast (imageTerms s a) [] (map arrivalOf h)) (only-more (passing s a) before f e)
+      ∙ ap (rulePast (imageTerms s a) []) (map-append arrivalOf (only (passing s a) before) (f ∷ []))
+      ∙ rule-snoc (imageTerms s a) (map arrivalOf (only (passing s a) before)) (arrivalOf f) []
+      ∙ ap (λ r. r .past) (step-arrived (imageTerms s a) _ (length (f .octets)) (f .time) z)
+
+-- ---- the answer to a frame behind the calls `before`, with its data
+abbrev pub account-of : List ℕ → List Call → ℕ → Account
+account-of s before a = state (imageTerms s a) (reachedIn s before a)
+
+abbrev pub link-verdict : List ℕ → List Call → Call → Found → Told
+link-verdict s before f Nowhere = told (Refused (filterCode s f))
+link-verdict s before f (At j) = withMask (imageLink s j .mask) (policed (account-of s before (imageLink s j .account)) (length (f .octets)) (f .time) .says)
+
+unfoldable pub verdict-for : List ℕ → List Call → Call → Told
+verdict-for s before f = if not (eqb (filterCode s f) 0) then told (Refused (filterCode s f)) else link-verdict s before f (linkRow s f)
+
+-- ---- each account is the one that the frames which reached it leave
+pub record Stands (s : List ℕ) (g : Config) (q : State) (before : List Call) : Type 0 where
+  pub credit-room : readImage s .accounts ≤ length (q .credits)
+  pub last-room : readImage s .accounts ≤ length (q .lasts)
+  pub is : (i : ℕ) → i < readImage s .accounts → accountHeld (g .accounts) q i ≡ account-of s before i
+  pub sound : (i : ℕ) → i < readImage s .accounts → Sound (imageTerms s i) (reachedIn s before i)
+
+-- what a call answers and leaves, by the rule
+pub record Ruled (s : List ℕ) (g : Config) (before : List Call) (f : Call) (r : After) : Type 0 where
+  pub code : r .says .code ≡ ruleCode s before f
+  pub verdict : r .says ≡ verdict-for s before f
+  pub stands : Stands s g (r .state) (before ++ (f ∷ []))
+
+-- ---- one call
+module _ (s : List ℕ) (g : Config) (t : Tables s g) (q : State) (before : List Call) (st : Stands s g q before) (f : Call) where
+  -- a frame that passes to no account changes none
+  stays : ((a : ℕ) → passing s a f ≡ false) → Stands s g q (before ++ (f ∷ []))
+  stays h =
+      record {
+        credit-room = st .credit-room;
+        last-room = st .last-room;
+        is = λ i b. st .is i b ∙ ap (state (imageTerms s i)) (sym (reached-same s before f i (h i)));
+        sound = λ i b. subst (Sound (imageTerms s i)) (sym (reached-same s before f i (h i))) (st .sound i b);
+      }
+
+  refused-by : (c : ℕ) → filterCode s f ≡ c → (c ≡ 0 → ⊥) → Ruled s g before f (refusedWith c q)
+  unfolding ruleCode verdict-for
+  refused-by c e n =
+      let z : eqb (filterCode s f) 0 ≡ false = ne-eqb (filterCode s f) 0 (λ d. n (sym e ∙ d)) in
+      record {
+        code = simp z (sym e);
+        verdict = simp z (ap (λ (c : ℕ). told (Refused c)) (sym e));
+        stands = stays (λ a. passes-none s f a (eqb-false _ _ z));
+      }
+
+  -- an account that the frame goes over to
+  module _ (j : ℕ) (h : j < readImage s .links) (z : frame-code s f ≡ 0) (e : linkRow s f ≡ At j) where
+    abbrev link : Link
+    link = imageLink s j
+
+    abbrev a : ℕ
+    a = link .account
+
+    abbrev n : ℕ
+    n = length (f .octets)
+
+    known : a < readImage s .accounts
+    known = sound-account link (readImage s .accounts) _ (t .rules j h)
+
+    all-used : accountsInUse g q ≡ readImage s .accounts
+    unfolding inUse
+    all-used =
+        let b = t .account-count in
+        let c = t .account-room in
+        let d = st .credit-room in
+        let k = st .last-room in
+        omega arith
+
+    -- the link and the account are sound: 10 does not arise
+    abbrev account : Account
+    account = account-of s before a
+
+    valid-account : valid account ≡ true
+    valid-account = state-valid (imageTerms s a) (reachedIn s before a) (st .sound a known) (t .limits a known)
+
+    decided-is : (d : Decided) → decided link (readImage s .accounts) account n (f .port) (f .time) ≡ d
+        → onLink g q f link ≡ stored q a d
+    decided-is d r =
+        ap (stored q a) ((λ k. decided link (all-used k) (st .is a known k) n (f .port) (f .time)) ∙ r)
+
+    over-refused : (portCode link n (f .port) ≡ 0 → ⊥) → Ruled s g before f (onLink g q f link)
+    over-refused m =
+        let c : filterCode s f ≡ portCode link n (f .port) = filter-link s f z j e in
+        let d = decided-is (kept (portCode link n (f .port)) account) (decided-refused link (readImage s .accounts) account n (f .port) (f .time) (t .rules j h) valid-account m) in
+        let p : account ≡ accountHeld (g .accounts) q a = sym (st .is a known) in
+        let k : stateOf (set (q .credits) a (account .credit)) (set (q .lasts) a (account .last)) ≡ q =
+        (λ i. stateOf (set (q .credits) a (p i .credit)) (set (q .lasts) a (p i .last))) ∙ held-again (g .accounts) q a in
+        subst (Ruled s g before f) (sym (d ∙ (λ i. record { says = told (Refused (portCode link n (f .port))); state = k i })))
+        (refused-by (portCode link n (f .port)) c m)
+
+    -- the frame reaches the account, or is late
+    module _ (m : portCode link n (f .port) ≡ 0) where
+      zero-code : filterCode s f ≡ 0
+      zero-code = filter-link s f z j e ∙ m
+
+      right-size : lengthCode n ≡ 0
+      right-size = frame-zero (readImage s .constant) (f .octets) z
+
+      agree : Agree (imageTerms s a) (policed account n (f .time)) (ruleArrived (imageTerms s a) (reachedIn s before a) n (f .time))
+      agree = arrival (imageTerms s a) (reachedIn s before a) (st .sound a known) (t .limits a known) n (f .time) right-size
+
+      abbrev next : Account
+      next = policed account n (f .time) .account
+
+      abbrev after : State
+      after = stateOf (set (q .credits) a (next .credit)) (set (q .lasts) a (next .last))
+
+      -- the row of account i with what the runs hold for it
+      row-held : (w : State) (i : ℕ) → i < readImage s .accounts → accountHeld (g .accounts) w i ≡ accountOf (imageTerms s i) (getD (w .credits) i 0) (getD (w .lasts) i 0)
+      unfolding accountHeld
+      row-held w i b = ap (λ (p : Terms). accountOf p (getD (w .credits) i 0) (getD (w .lasts) i 0)) (t .terms i b)
+
+      held-same : accountHeld (g .accounts) after a ≡ next
+      held-same =
+          let b = st .credit-room in
+          let c = st .last-room in
+          let k = known in
+          row-held after a k
+          ∙ (λ i. accountOf (imageTerms s a) (getD-set-same (q .credits) a (next .credit) 0 (omega arith) i) (getD-set-same (q .lasts) a (next .last) 0 (omega arith) i))
+          ∙ policed-keeps account n (f .time)
+
+      held-other : (i : ℕ) → i < readImage s .accounts → (i ≡ a → ⊥) → accountHeld (g .accounts) after i ≡ accountHeld (g .accounts) q i
+      held-other i b ne =
+          row-held after i b
+          ∙ (λ k. accountOf (imageTerms s i) (getD-set-other (q .credits) a i (next .credit) 0 ne k) (getD-set-other (q .lasts) a i (next .last) 0 ne k))
+          ∙ sym (row-held q i b)
+
+      -- which account the frame passes to
+      passes : (i : ℕ) → passing s i f ≡ eqb a i
+      passes i = passes-link s f i j z e zero-code
+
+      past-same : reachedIn s (before ++ (f ∷ [])) a ≡ ruleArrived (imageTerms s a) (reachedIn s before a) n (f .time) .past
+      past-same = reached-more s before f a (passes a ∙ eq-eqb a a refl) right-size
+
+      past-other : (i : ℕ) → eqb a i ≡ false → reachedIn s (before ++ (f ∷ [])) i ≡ reachedIn s before i
+      past-other i d = reached-same s before f i (passes i ∙ d)
+
+      next-is : (i : ℕ) → i < readImage s .accounts → accountHeld (g .accounts) after i ≡ account-of s (before ++ (f ∷ [])) i
+      next-is i b =
+          split (eqb a i)
+          (λ d.
+          subst (λ (k : ℕ). accountHeld (g .accounts) after k ≡ account-of s (before ++ (f ∷ [])) k) (eqb-true a i d)
+          (held-same ∙ agree .same-account ∙ ap (state (imageTerms s a)) (sym past-same)))
+          (λ d.
+          held-other i b (λ k. eqb-false a i d (sym k)) ∙ st .is i b ∙ ap (state (imageTerms s i)) (sym (past-other i d)))
+
+      next-sound : (i : ℕ) → i < readImage s .accounts → Sound (imageTerms s i) (reachedIn s (before ++ (f ∷ [])) i)
+      next-sound i b =
+          split (eqb a i)
+          (λ d.
+          subst (λ (k : ℕ). Sound (imageTerms s k) (reachedIn s (before ++ (f ∷ [])) k)) (eqb-true a i d)
+          (subst (Sound (imageTerms s a)) (sym past-same) (agree .sound)))
+          (λ d. subst (Sound (imageTerms s i)) (sym (past-other i d)) (st .sound i b))
+
+      next-stands : Stands s g after (before ++ (f ∷ []))
+      next-stands =
+          record {
+            credit-room = rw (length-set (q .credits) a (next .credit)) (st .credit-room);
+            last-room = rw (length-set (q .lasts) a (next .last)) (st .last-room);
+            is = next-is;
+            sound = next-sound;
+          }
+
+      code-is : policed account n (f .time) .says .code ≡ ruleCode s before f
+      unfolding ruleCode
+      code-is = rw e (simp (eq-eqb (filterCode s f) 0 zero-code) (agree .same-code))
+
+      verdict-is : withMask (link .mask) (policed account n (f .time) .says) ≡ verdict-for s before f
+      unfolding verdict-for
+      verdict-is = rw e (simp (eq-eqb (filterCode s f) 0 zero-code))
+
+      over-policed : Ruled s g before f (onLink g q f link)
+      over-policed =
+          subst (Ruled s g before f)
+          (sym (decided-is _ (decided-policed link (readImage s .accounts) account n (f .port) (f .time) (t .rules j h) valid-account m)))
+          (record { code = code-is; verdict = verdict-is; stands = next-stands })
+
+    over : Ruled s g before f (onLink g q f link)
+    over = split (eqb (portCode link n (f .port)) 0) (λ m. over-policed (eqb-true _ _ m)) (λ m. over-refused (eqb-false _ _ m))
+
+  pub one-call : Ruled s g before f (called g q f)
+  one-call =
+      by-filter s f
+      (λ m. subst (Ruled s g before f) (sym (call-frame s g t q f m)) (refused-by (frame-code s f) (filter-frame s f m) m))
+      (λ z e. subst (Ruled s g before f) (sym (call-nowhere s g t q f z e)) (refused-by 4 (filter-unknown s f z e) (λ d. omega arith)))
+      (λ z j e h. subst (Ruled s g before f) (sym (call-link s g t q f z j e h)) (over j h z e))
+
+-- ---- a list of calls
+unfoldable pub verdicts-after : List ℕ → List Call → List Call → List Told
+verdicts-after s before [] = []
+verdicts-after s before (f ∷ fs) = verdict-for s before f ∷ verdicts-after s (before ++ (f ∷ [])) fs
+
+module _ (s : List ℕ) (g : Config) (t : Tables s g) where
+  pub history-codes : (h : List Call) (q : State) (before : List Call) → Stands s g q before → codes (answers g q h) ≡ ruleCodesAfter s before h
+  unfolding answers ruleCodesAfter
+  history-codes [] q before st = refl
+  history-codes (f ∷ fs) q before st =
+      let o = one-call s g t q before st f in
+      ap₂ _∷_ (o .code) (history-codes fs (called g q f .state) (before ++ (f ∷ [])) (o .stands))
+
+  pub history-verdicts : (h : List Call) (q : State) (before : List Call) → Stands s g q before → answers g q h ≡ verdicts-after s before h
+  unfolding answers verdicts-after
+  history-verdicts [] q before st = refl
+  history-verdicts (f ∷ fs) q before st =
+      let o = one-call s g t q before st f in
+      ap₂ _∷_ (o .verdict) (history-verdicts fs (called g q f .state) (before ++ (f ∷ [])) (o .stands))
+
+  pub history-stands : (h : List Call) (q : State) (before : List Call) → Stands s g q before → Stands s g (final g q h) (before ++ h)
+  unfolding final
+  history-stands [] q before st = subst (Stands s g q) (sym (append-nil before)) st
+  history-stands (f ∷ fs) q before st =
+      subst (Stands s g (final g (called g q f .state) fs)) (append-snoc before f fs)
+      (history-stands fs (called g q f .state) (before ++ (f ∷ [])) (one-call s g t q before st f .stands))
+
+-- ---- from tables just loaded
+reached-none : (s : List ℕ) (a : ℕ) → reachedIn s [] a ≡ []
+unfolding reachedIn only rulePast
+reached-none s a = refl
+
+pub starts : (s : List ℕ) (r : Runs) → Fresh s r → Stands s (configIn s r) (stateIn r) []
+starts s r fresh =
+    record {
+      credit-room = long s r fresh .credits-long;
+      last-room = long s r fresh .lasts-long;
+      is = λ i b. starts-loaded s r fresh i b ∙ state-loaded (imageTerms s i) ∙ ap (state (imageTerms s i)) (sym (reached-none s i));
+      sound = λ i b. subst (Sound (imageTerms s i)) (sym (reached-none s i)) tt;
+    }
+
+pub rule-of-fresh-tables : RuleOfFreshTables
+rule-of-fresh-tables s r fresh h = history-codes s (configIn s r) (tables s r fresh) h (stateIn r) [] (starts s r fresh)

@@ -1,0 +1,107 @@
+-- Demand 3's first half from loading itself, in words, and that 10 never arises. Assumes nothing.
+use Prim.Native.Nat.{ℕ, _≤_, _<_}
+use mathlib.Core.List.{List, [], _∷_, _++_, List·Memᴰ, List·Memᴰ·not-nil, List·Memᴰ·cases-cons}
+use mathlib.Core.Logic.{⊎-elim}
+use mathlib.Core.Path.{_≡_, refl, sym, ap, _∙_, subst}
+use native.Mathlib.Omega.{arith}
+use lib.ListN.{length}
+use lib.Dec.{ltb, eqb}
+use borrow.Author.Tests.{lt-ltb, eq-eqb, ne-eqb}
+use Rattle.octets.proofs.Tests.{split}
+use Rattle.account.specs.Terms.{Terms, cost}
+use Rattle.rule.specs.Bucket.{Reached, lastTime, ruleHolds}
+use Rattle.rule.specs.Rule.{allowance, ruleArrived}
+use Rattle.rule.proofs.Rule.{in-words}
+use Rattle.tables.specs.Rows.{Config}
+use Rattle.image.specs.Read.{readImage, configFor}
+use Rattle.loader.specs.Loading.{Runs, loading}
+use Rattle.loader.specs.Fresh.{Fresh}
+use Rattle.image.specs.declared.Loaded.{Loaded}
+use Rattle.loader.proofs.Fresh.{load-fresh}
+use Rattle.trips.specs.Trips.{loadedTables}
+use Rattle.switch.specs.Call.{Call, called}
+use Rattle.switch.proofs.Filter.{frame-code-high, port-code-high}
+use Rattle.demands.specs.History.{answers, final, codes, configIn, stateIn}
+use Rattle.demands.specs.Rule.{imageTerms, imageLink, linkRow, filterCode, reachedIn, accountNamed, ruleCode, ruleCodesAfter}
+use Rattle.demands.specs.Demand3.{RuleOfHistory, Judged, RuleInWords, OthersInWords, TenNever}
+use Rattle.demands.proofs.Tables.{tables}
+use Rattle.demands.proofs.Filter.{filter-frame, filter-unknown, filter-link, by-filter}
+use Rattle.demands.proofs.Rule.{Stands, one-call, history-stands, starts, rule-of-fresh-tables}
+
+-- ---- from loading
+module _ (s : List ℕ) (r : Runs) (z : loading s r .answer .code ≡ 0) where
+  pub loaded-fresh : Fresh s (loading s r .runs)
+  loaded-fresh = load-fresh s r z .1
+
+  -- what loading answered is what reading answers
+  pub loaded-config : loadedTables s r ≡ configIn s (loading s r .runs)
+  loaded-config =
+      ap (λ (q : Loaded). configFor q (loading s r .runs .accounts) (loading s r .runs .links)) (load-fresh s r z .0)
+
+pub rule-of-history : RuleOfHistory
+rule-of-history s r z h =
+    ap (λ (g : Config). codes (answers g (stateIn (loading s r .runs)) h)) (loaded-config s r z)
+    ∙ rule-of-fresh-tables s (loading s r .runs) (loaded-fresh s r z) h
+
+-- ---- in words
+code-arrived : (s : List ℕ) (before : List Call) (f : Call) → filterCode s f ≡ 0
+    → ruleCode s before f ≡ ruleArrived (imageTerms s (accountNamed s (linkRow s f))) (reachedIn s before (accountNamed s (linkRow s f))) (length (f .octets)) (f .time) .code
+unfolding ruleCode
+code-arrived s before f z = simp (eq-eqb _ _ z)
+
+pub rule-in-words : RuleInWords
+rule-in-words s r fresh before f z h =
+    let g : Config = configIn s r in
+    let a : ℕ = accountNamed s (linkRow s f) in
+    let st = history-stands s g (tables s r fresh) before (stateIn r) [] (starts s r fresh) in
+    let o = one-call s g (tables s r fresh) (final g (stateIn r) before) before st f in
+    let w = in-words (imageTerms s a) (reachedIn s before a) (length (f .octets)) (f .time) h
+    (called g (final g (stateIn r) before) f .says .code) (o .code ∙ code-arrived s before f z) in
+    record { exactly = w .0; otherwise = w .1 }
+
+-- any other frame: the filter's code, or late
+arrived-late : (p : Terms) (past : List Reached) (n t : ℕ) → t < lastTime past → ruleArrived p past n t .code ≡ 8
+unfolding ruleArrived
+arrived-late p past n t h = simp (lt-ltb _ _ h)
+
+code-filtered : (s : List ℕ) (before : List Call) (f : Call) → (filterCode s f ≡ 0 → ⊥) → ruleCode s before f ≡ filterCode s f
+unfolding ruleCode
+code-filtered s before f h = simp (ne-eqb _ _ h)
+
+pub others-in-words : OthersInWords
+others-in-words s r fresh before f =
+    let g : Config = configIn s r in
+    let st = history-stands s g (tables s r fresh) before (stateIn r) [] (starts s r fresh) in
+    let o = one-call s g (tables s r fresh) (final g (stateIn r) before) before st f in
+    (λ h. o .code ∙ code-filtered s before f h, λ z h. o .code ∙ code-arrived s before f z ∙ arrived-late _ _ _ _ h)
+
+-- ---- 10 never
+filter-code-high : (s : List ℕ) (f : Call) → filterCode s f ≤ 7
+filter-code-high s f =
+    by-filter s f
+    (λ m. let k = frame-code-high (readImage s .constant) (f .octets) in let e = filter-frame s f m in omega arith)
+    (λ z e. let k = filter-unknown s f z e in omega arith)
+    (λ z j e _. let k = filter-link s f z j e in let b = port-code-high (imageLink s j) (length (f .octets)) (f .port) in omega arith)
+
+arrived-high : (p : Terms) (past : List Reached) (n t : ℕ) → ruleArrived p past n t .code ≤ 9
+unfolding ruleArrived
+arrived-high p past n t =
+    split (ltb t (lastTime past))
+    (λ e. simp e (omega arith))
+    (λ e. split (ruleHolds (allowance p) t (cost p n) past) (λ d. simp (e, d) (omega arith)) (λ d. simp (e, d) (omega arith)))
+
+rule-code-high : (s : List ℕ) (before : List Call) (f : Call) → ruleCode s before f ≤ 9
+unfolding ruleCode
+rule-code-high s before f =
+    split (eqb (filterCode s f) 0)
+    (λ e. simp e (arrived-high _ _ _ _))
+    (λ e. let k = filter-code-high s f in simp e (omega arith))
+
+codes-high : (s : List ℕ) (h before : List Call) (c : ℕ) → List·Memᴰ c (ruleCodesAfter s before h) → c ≤ 9
+unfolding ruleCodesAfter
+codes-high s [] before c m = absurd (List·Memᴰ·not-nil m)
+codes-high s (f ∷ fs) before c m =
+    ⊎-elim (λ e. let k = rule-code-high s before f in omega arith) (codes-high s fs (before ++ (f ∷ [])) c) (List·Memᴰ·cases-cons m)
+
+pub ten-never : TenNever
+ten-never s r fresh h c m = codes-high s h [] c (subst (List·Memᴰ c) (rule-of-fresh-tables s r fresh h) m)

@@ -1,0 +1,54 @@
+-- The starred cases of the bench sheet (document 01, "Bench sheet") as one statement, from the octets of image P through loading and
+-- the frame call. The cases, with octets, time, code and credit, are those of rule's table, where the figures beside them stand too: the
+-- cost of case 3, the sums of case 4 and the top-up of case 10, of the account values that image P is here said to have.
+use Prim.Native.Nat.{ℕ, _-_, _^_}
+use mathlib.Core.Bool.{true}
+use mathlib.Core.List.{List, [], _∷_, map}
+use mathlib.Core.Path.{_≡_}
+use lib.ListN.{getD, set, replicate}
+use Rattle.account.specs.Terms.{byteMode, frameMode}
+use Rattle.rule.specs.Bench.{Case, termsP, byteCases, frameCases}
+use Rattle.image.specs.Bench.{imageP, answerP}
+use Rattle.loader.specs.Loading.{Runs, longEnough, loading}
+use Rattle.trips.specs.Trips.{loadedTables}
+use Rattle.switch.specs.Verdict.{Told, withMask}
+use Rattle.switch.specs.Call.{State, Call, callOf}
+use Rattle.demands.specs.History.{answers, final, stateIn}
+use Rattle.demands.specs.Rule.{imageTerms}
+
+-- image P with frame mode in its account: octet 16 is 1
+abbrev pub frameImageP : List ℕ
+frameImageP = set imageP 16 1
+
+-- a frame of n octets, 6 or more, with image P's constant field, on link 7 and port 2
+abbrev pub sent : ℕ → ℕ → Call
+sent n t = callOf (3 ∷ 0 ∷ 0 ∷ 0 ∷ 0 ∷ 7 ∷ replicate (n - 6) 0) 2 t
+
+abbrev pub calls : List Case → List Call
+calls = map (λ c. sent (c .arrival .octets) (c .arrival .time))
+
+-- what a case is to tell, with link 7's mask, port 3, where it is forwarded
+abbrev pub verdicts : List Case → List Told
+verdicts = map (λ c. withMask 8 (c .tells))
+
+-- the answers of these cases from an image loaded into runs
+abbrev pub replied : List ℕ → Runs → List Case → List Told
+replied s r cases = answers (loadedTables s r) (stateIn (loading s r .runs)) (calls cases)
+
+-- and what they leave
+abbrev pub left : List ℕ → Runs → List Case → State
+left s r cases = final (loadedTables s r) (stateIn (loading s r .runs)) (calls cases)
+
+-- what loading answers, and the account that image P names; case 1; cases 2 to 10, and what the account then holds; case 11. From runs
+-- of any content, long enough for one account and one link
+abbrev pub CallBenchTable : Type 0
+CallBenchTable =
+    (r : Runs) → longEnough 1 1 r ≡ true
+    → (loading imageP r .answer ≡ answerP)
+    × (imageTerms imageP 0 ≡ termsP byteMode)
+    × (imageTerms frameImageP 0 ≡ termsP frameMode)
+    × (getD (loading imageP r .runs .credits) 0 0 ≡ 300000)
+    × (replied imageP r byteCases ≡ verdicts byteCases)
+    × (getD (left imageP r byteCases .credits) 0 0 ≡ 100000)
+    × (getD (left imageP r byteCases .lasts) 0 0 ≡ 2 ^ 64 - 1)
+    × (replied frameImageP r frameCases ≡ verdicts frameCases)

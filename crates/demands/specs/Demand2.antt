@@ -1,0 +1,82 @@
+-- Demand 2: every answer is the right one. That each call's answer is document 01's is its contract, an equation with the definition
+-- that states it; here are gathered the readings of these definitions that document 01 settles by itself, and the round trips. Proved
+-- in proofs/Demands.antt.
+use Rattle.octets.specs.Claims.{ReadsBack, WritesBack}
+use Rattle.frame.specs.Claims.{LengthLimits, PayloadLength}
+use Rattle.account.specs.Claims.{CapacityLargest, TermsLimits, ForwardedStepTakesCost, StepIsTopUpAndDebit, RefusedMethodsRest}
+use Rattle.rule.specs.Bench.{BenchTable}
+use Rattle.tables.specs.Claims.{FindsFirst, FindsNone, LinkRefused, LinkAccepted}
+use Rattle.layout.specs.Claims.{ImageFigures, ConstantLimits}
+use Rattle.image.specs.Bench.{ImagePReads}
+use Rattle.image.specs.Claims.{AcceptedEnds, ReadFieldByField, PrefixRead}
+use Rattle.loader.specs.Claims.{LoadRefuses, RowsBeyondKept, PrefixLoad}
+use Rattle.loader.specs.Fresh.{LoadAccepts, LoadFresh, FreshHolds, FreshSound}
+use Rattle.image_writer.specs.Claims.{WriteRefuses, WriteAccepts, WriteOffsets, WritesImage, ImageLength, FirstBadConstant, FirstBadAccount, FirstBadLink}
+use Rattle.trips.specs.Trips.{AcceptedIsImage, ImageIsAccepted, WriteRead, ReadWrite}
+use Rattle.switch.specs.Claims.{CodesInOrder, CallEffects, LengthAlone, PortsBeyond, RowsBeyondUnread}
+use Rattle.demands.specs.Bench.{CallBenchTable}
+
+-- writing and then loading, and loading and then writing ("The configuration image"); octets are accepted exactly where they are the
+-- image of good tables
+pub record RoundTrips : Type 0 where
+  pub written-reads-back : WriteRead
+  pub read-writes-back : ReadWrite
+  pub accepted-is-image : AcceptedIsImage
+  pub image-is-accepted : ImageIsAccepted
+
+-- the frame call and the policing step ("Codes, in order of checking"; "Credit, in whole units")
+pub record Verdicts : Type 0 where
+  pub codes-in-order : CodesInOrder
+  pub effects : CallEffects
+  pub length-alone : LengthAlone
+  pub ports-beyond : PortsBeyond
+  pub rows-beyond : RowsBeyondUnread
+  pub finds-first : FindsFirst
+  pub finds-none : FindsNone
+  pub takes-cost : ForwardedStepTakesCost
+  pub top-up-and-debit : StepIsTopUpAndDebit
+  pub methods-rest : RefusedMethodsRest
+
+-- reading, loading and writing an image ("The configuration image")
+pub record Images : Type 0 where
+  pub accepted-ends : AcceptedEnds
+  pub field-by-field : ReadFieldByField
+  pub load-accepts : LoadAccepts
+  pub load-refuses : LoadRefuses
+  pub load-fresh : LoadFresh
+  pub fresh-holds : FreshHolds
+  pub fresh-sound : FreshSound
+  pub rows-beyond : RowsBeyondKept
+  pub prefix-read : PrefixRead
+  pub prefix-load : PrefixLoad
+  pub write-accepts : WriteAccepts
+  pub write-refuses : WriteRefuses
+  pub write-offsets : WriteOffsets
+  pub writes-image : WritesImage
+  pub image-length : ImageLength
+  pub first-bad-constant : FirstBadConstant
+  pub first-bad-account : FirstBadAccount
+  pub first-bad-link : FirstBadLink
+
+-- document 01's figures: limits at both sides, and the starred cases of the bench sheet
+pub record Figures : Type 0 where
+  pub lengths : LengthLimits
+  pub payload : PayloadLength
+  pub terms : TermsLimits
+  pub capacity : CapacityLargest
+  pub links-refused : LinkRefused
+  pub links-accepted : LinkAccepted
+  pub image : ImageFigures
+  pub image-p : ImagePReads
+  pub constants : ConstantLimits
+  pub steps : BenchTable
+  pub calls : CallBenchTable
+
+pub record Demand2 : Type 0 where
+  pub round-trips : RoundTrips
+  pub verdicts : Verdicts
+  pub images : Images
+  pub figures : Figures
+  -- numbers in octets ("What the box covers")
+  pub octets-read : ReadsBack
+  pub octets-written : WritesBack

@@ -1,0 +1,89 @@
+// Laying an image's octets into lent room. What has no room is not laid at all.
+ghost use mathlib.Core.List.{_∷_};
+ghost use mathlib.Core.Path.{_≡_};
+ghost use Rattle.octets.specs.Numbers.{octetsOf};
+ghost use Rattle.octets.specs.Runs.{octetsAt, joined, put};
+ghost use Rattle.tables.specs.Rows.{tableOf, rowOctets, configOf};
+ghost use Rattle.layout.specs.Layout.{headTag, edition, fieldOf, imageOf};
+
+// The head.
+fn put_head(room: &mut [u8], constant: u32)
+    ensures { λ r. ⌜ now (room .exit) ≡ put (now (room .entry)) 0 (fieldOf headTag (edition ∷ octetsOf 4 constant)) ⌝ }
+{
+    if !octets::has_room(room.len(), 0, layout::HEAD_SIZE) {
+        return;
+    }
+    room[0] = layout::HEAD_TAG;
+    laying::put_u16(room, 1, layout::HEAD_OCTETS as u16);
+    room[layout::EDITION_PLACE] = layout::EDITION;
+    laying::put_u32(room, layout::CONSTANT_PLACE, constant);
+}
+
+// One field at a place: its tag, its length, and `size` octets of the rows from `from` on.
+fn put_field(room: &mut [u8], at: usize, tag: u8, rows: &[u8], from: usize, size: u8)
+    ensures { λ r. ⌜ now (room .exit) ≡ put (now (room .entry)) at (fieldOf tag (octetsAt size (now (rows .entry)) from)) ⌝ }
+{
+    if !octets::has_room(room.len(), at, layout::TAG_AND_LENGTH + size as usize) {
+        return;
+    }
+    room[at] = tag;
+    laying::put_u16(room, at + 1, size as u16);
+    laying::copy(rows, from, size as usize, room, at + layout::TAG_AND_LENGTH);
+}
+
+// The fields of the first n rows of `size` octets, from a place on.
+fn put_fields(room: &mut [u8], at: usize, tag: u8, rows: &[u8], size: u8, n: u16)
+    ensures { λ r. ⌜ now (room .exit) ≡ put (now (room .entry)) at (joined (λ i. fieldOf tag (rowOctets size (tableOf size (now (rows .entry))) i)) n) ⌝ }
+{
+    let wide = size as usize;
+    let step = layout::TAG_AND_LENGTH + wide;
+    if !octets::has_room(room.len(), at, step * n as usize) {
+        return;
+    }
+    let mut i: u16 = 0;
+    while i < n {
+        put_field(
+            room,
+            at + step * i as usize,
+            tag,
+            rows,
+            wide * i as usize,
+            size,
+        );
+        i += 1;
+    }
+}
+
+// The whole image. The end has no data, so of the rows that are lent for it nothing is read.
+pub fn put_image(constant: u32, accounts: &[u8], n: u16, links: &[u8], m: u16, room: &mut [u8])
+    ensures { λ r. ⌜ now (room .exit) ≡ put (now (room .entry)) 0 (imageOf (configOf constant (now (accounts .entry)) n (now (links .entry)) m)) ⌝ }
+{
+    if !octets::has_room(room.len(), 0, layout::data_place(n, m)) {
+        return;
+    }
+    put_head(room, constant);
+    put_fields(
+        room,
+        layout::field_place(0, 0),
+        layout::ACCOUNT_TAG,
+        accounts,
+        tables::ACCOUNT_OCTETS as u8,
+        n,
+    );
+    put_fields(
+        room,
+        layout::field_place(n, 0),
+        layout::LINK_TAG,
+        links,
+        tables::LINK_OCTETS as u8,
+        m,
+    );
+    put_field(
+        room,
+        layout::field_place(n, m),
+        layout::END_TAG,
+        accounts,
+        0,
+        0,
+    );
+}

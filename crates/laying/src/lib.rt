@@ -1,0 +1,53 @@
+// Laying octets into lent runs: numbers of 2, 4 and 8 octets, the high octet first, and a part of one run copied into
+// another. Every function is total: what has no room is not written at all.
+ghost use mathlib.Core.Path.{_≡_};
+ghost use Rattle.octets.specs.Numbers.{octetsOf};
+ghost use Rattle.octets.specs.Runs.{octetsAt, put};
+
+// The two octets of x laid from a place on.
+pub fn put_u16(to: &mut [u8], at: usize, x: u16)
+    ensures { λ r. ⌜ now (to .exit) ≡ put (now (to .entry)) at (octetsOf 2 x) ⌝ }
+{
+    if !octets::has_room(to.len(), at, 2) {
+        return;
+    }
+    to[at] = (x / 256) as u8;
+    to[at + 1] = (x % 256) as u8;
+}
+
+// The four octets of x laid from a place on.
+pub fn put_u32(to: &mut [u8], at: usize, x: u32)
+    ensures { λ r. ⌜ now (to .exit) ≡ put (now (to .entry)) at (octetsOf 4 x) ⌝ }
+{
+    if !octets::has_room(to.len(), at, 4) {
+        return;
+    }
+    put_u16(to, at, (x / 65536) as u16);
+    put_u16(to, at + 2, (x % 65536) as u16);
+}
+
+// The eight octets of x laid from a place on.
+pub fn put_u64(to: &mut [u8], at: usize, x: u64)
+    ensures { λ r. ⌜ now (to .exit) ≡ put (now (to .entry)) at (octetsOf 8 x) ⌝ }
+{
+    if !octets::has_room(to.len(), at, 8) {
+        return;
+    }
+    put_u32(to, at, (x / 4294967296) as u32);
+    put_u32(to, at + 4, (x % 4294967296) as u32);
+}
+
+// A part of a run copied to a place in another: `size` octets from `at` on.
+pub fn copy(from: &[u8], at: usize, size: usize, to: &mut [u8], place: usize)
+    ensures { λ r. ⌜ now (to .exit) ≡ put (now (to .entry)) place (octetsAt size (now (from .entry)) at) ⌝ }
+{
+    if !octets::has_room(to.len(), place, size) {
+        return;
+    }
+    let start = octets::least(at, from.len());
+    let mut i = 0;
+    while i < size {
+        to[place + i] = octets::octet_at(from, start + i);
+        i += 1;
+    }
+}

@@ -1,0 +1,129 @@
+-- Laws of filling a run row by row, and of what loading leaves. Assumes nothing.
+use Prim.Native.Nat.{ℕ, suc, _+_, _*_, _≤_, _<_, min}
+use mathlib.Core.Bool.{true}
+use mathlib.Core.List.{List, [], _∷_, _++_}
+use mathlib.Core.Path.{_≡_, sym, ap, _∙_}
+use native.Mathlib.Nat.{add-assoc, zero-add}
+use native.Mathlib.Omega.{arith}
+use lib.Dec.{eqb}
+use lib.ListN.{length, getD, set, replicate, length-replicate, replicate-append-replicate}
+use borrow.Author.Tests.{eqb-true, eqb-false}
+use Rattle.octets.proofs.Tests.{split}
+use Rattle.octets.specs.Runs.{octetsAt, joined, put}
+use Rattle.octets.proofs.Parts.{length-part, part-same, getD-clamped, joined-same}
+use Rattle.octets.proofs.Runs.{put-next, put-none, lay-next}
+use Rattle.account.specs.Account.{accountOf, capacityOf}
+use Rattle.account.specs.declared.Account.{Account}
+use Rattle.account.proofs.Methods.{valid-by}
+use Rattle.tables.specs.Rows.{accountOctets, linkOctets, termsAt, accountIn, rowOctets}
+use Rattle.tables.specs.Rules.{accountGood}
+use Rattle.layout.specs.Layout.{tagAndLength, dataPlace}
+use Rattle.image.specs.Read.{fieldRows, accountFields}
+use Rattle.loader.specs.Loading.{Runs, runsOf, loadingOf, accountRows, linkRows, fullCredit, capacities, filled, answerFor, loading}
+use Rattle.image.specs.declared.Loaded.{Loaded}
+use Rattle.loader.proofs.Loading.{loaded-good, refused-none}
+use Rattle.layout.proofs.Places.{account-place}
+
+-- ---- one element more
+module _ (f : ℕ → List ℕ) (d : List ℕ) (n i x : ℕ) (h : n ≤ length d) (l : i < n) (e : f i ≡ x ∷ []) (j : length (joined f i) ≡ i) where
+  pub fill-one : set (put d 0 (joined f i)) i x ≡ put d 0 (joined f (suc i))
+  unfolding joined
+  fill-one =
+      let z : 0 + length (joined f i) ≡ i = zero-add (length (joined f i)) ∙ j in
+      ap (λ (p : ℕ). set (put d 0 (joined f i)) p x) (sym z)
+      ∙ put-next d 0 (joined f i) x (omega arith)
+      ∙ ap (λ (ys : List ℕ). put d 0 (joined f i ++ ys)) (sym e)
+
+-- one zero more
+module _ (o : ℕ) where
+  fill-with : (d : List ℕ) (n i : ℕ) → n ≤ length d → i < n → set (put d 0 (replicate i o)) i o ≡ put d 0 (replicate (suc i) o)
+  fill-with d n i h l =
+      let j : length (replicate i o) ≡ i = length-replicate i o in
+      let z : 0 + length (replicate i o) ≡ i = zero-add (length (replicate i o)) ∙ j in
+      let k : i + 1 ≡ suc i = omega arith in
+      ap (λ (p : ℕ). set (put d 0 (replicate i o)) p o) (sym z)
+      ∙ put-next d 0 (replicate i o) o (omega arith)
+      ∙ ap (put d 0) (replicate-append-replicate i 1 o ∙ ap (λ (m : ℕ). replicate m o) k)
+
+pub fill-zero : (d : List ℕ) (n i : ℕ) → n ≤ length d → i < n → set (put d 0 (replicate i 0)) i 0 ≡ put d 0 (replicate (suc i) 0)
+fill-zero = fill-with 0
+
+-- ---- a row of the image, read from a place that is cut to the image's length
+pub row-clamped : (s : List ℕ) (first start size i : ℕ) → start ≡ min first (length s)
+    → octetsAt size s (start + (tagAndLength + size) * i) ≡ rowOctets size (fieldRows s first size) i
+row-clamped s first start size i e =
+    part-same size s s (start + (tagAndLength + size) * i) (first + (tagAndLength + size) * i)
+    (λ k l.
+    ap (λ (p : ℕ). getD s p 0) (add-assoc start ((tagAndLength + size) * i) k ∙ ap (λ (p : ℕ). p + ((tagAndLength + size) * i + k)) e)
+    ∙ getD-clamped s first ((tagAndLength + size) * i + k)
+    ∙ ap (λ (p : ℕ). getD s p 0) (sym (add-assoc first ((tagAndLength + size) * i) k)))
+
+-- the next row laid behind those before it
+pub row-laid : (s d e : List ℕ) (first start size n i : ℕ) → start ≡ min first (length s) → size * n ≤ length d → i < n
+    → e ≡ put (put d 0 (joined (rowOctets size (fieldRows s first size)) i)) (size * i) (octetsAt size s (start + (tagAndLength + size) * i))
+    → e ≡ put d 0 (joined (rowOctets size (fieldRows s first size)) (suc i))
+row-laid s d e first start size n i p h l v =
+    let f : ℕ → List ℕ = rowOctets size (fieldRows s first size) in
+    v ∙ ap (put (put d 0 (joined f i)) (size * i)) (row-clamped s first start size i p)
+    ∙ ap (λ (q : ℕ). put (put d 0 (joined f i)) q (f i)) (sym (zero-add (size * i)))
+    ∙ lay-next f size (λ k. length-part size s (first + (tagAndLength + size) * k)) d 0 n i (rw (zero-add (size * n)) h) l
+
+-- all of them, of accounts and of links
+module _ (s d e : List ℕ) (at : ℕ) where
+  pub accounts-laid : (n : ℕ) → at ≡ dataPlace 0 0 → e ≡ put d 0 (joined (rowOctets accountOctets (fieldRows s at accountOctets)) n) → e ≡ put d 0 (accountRows s n)
+  unfolding accountRows
+  accounts-laid n p v = v ∙ ap (λ (a : ℕ). put d 0 (joined (rowOctets accountOctets (fieldRows s a accountOctets)) n)) p
+
+  pub links-laid : (n m : ℕ) → at ≡ dataPlace n 0 → e ≡ put d 0 (joined (rowOctets linkOctets (fieldRows s at linkOctets)) m) → e ≡ put d 0 (linkRows s n m)
+  unfolding linkRows
+  links-laid n m p v = v ∙ ap (λ (a : ℕ). put d 0 (joined (rowOctets linkOctets (fieldRows s a linkOctets)) m)) p
+
+-- ---- the capacity of an account: as the method gives it, and as the formula does
+abbrev pub methodCapacity : List ℕ → ℕ → List ℕ
+methodCapacity s i = capacityOf (accountOf (accountIn (accountFields s) i) 0 0) ∷ []
+
+pub capacity-read : (s : List ℕ) (i at : ℕ) (a : Account) (x : ℕ) → at ≡ dataPlace i 0 → a ≡ accountOf (termsAt s at) 0 0 → x ≡ capacityOf a
+    → x ≡ capacityOf (accountOf (accountIn (accountFields s) i) 0 0)
+capacity-read s i at a x e f g = g ∙ ap capacityOf (f ∙ ap (λ (p : ℕ). accountOf (termsAt s p) 0 0) (e ∙ account-place i))
+
+full-capacity : (s : List ℕ) (i : ℕ) → accountGood (accountFields s) i ≡ true
+    → capacityOf (accountOf (accountIn (accountFields s) i) 0 0) ≡ fullCredit (accountFields s) i
+unfolding accountGood capacityOf
+full-capacity s i e = simp (valid-by (accountOf (accountIn (accountFields s) i) 0 0) e (omega arith))
+
+pub capacities-good : (s : List ℕ) (n : ℕ) → ((i : ℕ) → i < n → accountGood (accountFields s) i ≡ true) → joined (methodCapacity s) n ≡ capacities (accountFields s) n
+unfolding capacities
+capacities-good s n h =
+    joined-same (methodCapacity s) (λ i. fullCredit (accountFields s) i ∷ []) n
+    (λ i l. ap (λ (x : ℕ). x ∷ []) (full-capacity s i (h i l)))
+
+-- ---- what loading leaves: nothing where it refuses, else the rows that the image names
+module _ (s : List ℕ) (r : Runs) (q : Loaded) (e : q ≡ answerFor s r) (a c t l : List ℕ)
+    (p1 : a ≡ put (r .accounts) 0 (accountRows s (q .accounts)))
+    (p2 : c ≡ put (r .credits) 0 (joined (methodCapacity s) (q .accounts)))
+    (p3 : t ≡ put (r .lasts) 0 (replicate (q .accounts) 0))
+    (p4 : l ≡ put (r .links) 0 (linkRows s (q .accounts) (q .links))) where
+  keeps : q .accounts ≡ 0 → q .links ≡ 0 → runsOf a c t l ≡ r
+  unfolding accountRows linkRows joined
+  keeps n m =
+      let a0 : a ≡ r .accounts = rw n at p1 ∙ put-none (r .accounts) 0 in
+      let c0 : c ≡ r .credits = rw n at p2 ∙ put-none (r .credits) 0 in
+      let t0 : t ≡ r .lasts = rw n at p3 ∙ put-none (r .lasts) 0 in
+      let l0 : l ≡ r .links = rw m at p4 ∙ put-none (r .links) 0 in
+      rw (a0, c0, t0, l0)
+
+  fills : q .code ≡ 0 → runsOf a c t l ≡ filled s (q .accounts) (q .links) r
+  unfolding filled
+  fills z =
+      let c1 : c ≡ put (r .credits) 0 (capacities (accountFields s) (q .accounts)) =
+      p2 ∙ ap (put (r .credits) 0) (capacities-good s (q .accounts) (loaded-good s r q e z)) in
+      rw (p1, c1, p3, p4)
+
+  pub load-is : loadingOf q (runsOf a c t l) ≡ loading s r
+  unfolding loading
+  load-is =
+      split (eqb (q .code) 0)
+      (λ z. ap (loadingOf q) (fills (eqb-true _ _ z)) ∙ rw e (simp (rw e at z)))
+      (λ z.
+      let d : (q .code ≡ 0 → ⊥) = eqb-false _ _ z in
+      ap (loadingOf q) (keeps (refused-none s r q e d .0) (refused-none s r q e d .1)) ∙ rw e (simp (rw e at z)))

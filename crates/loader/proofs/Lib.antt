@@ -1,0 +1,5 @@
+pub mod Claims
+pub mod Filling
+pub mod Fresh
+pub mod Loading
+pub mod Prefix

@@ -1,0 +1,228 @@
+// The frames of `rig.frames`, read through one buffer and answered through another.
+ghost use Prim.Native.Nat.{_≤_};
+ghost use lib.ListN.{length};
+use image::Loaded;
+use libc::STDOUT_FILENO;
+use rig::log::Entry;
+use rig::replies::answer;
+use switch::Verdict;
+
+// Octets read at once, those of the longest record and more, and characters written at once.
+const READ_OCTETS: usize = 4 * rig::log::LONGEST_RECORD;
+
+const WRITE_OCTETS: usize = 65536;
+
+// Where a replay stands: how many octets are at hand, its place in them, its place in the room for lines, how many
+// frames are answered, and whether it is over.
+struct Progress {
+    hand: usize,
+    at: usize,
+    place: usize,
+    frames: u64,
+    over: bool,
+}
+
+// Writes the lines laid so far.
+fn flush(out: &[u8], place: usize) {
+    let end = octets::least(place, out.len());
+    io::write_all(STDOUT_FILENO, &out[0..end]);
+}
+
+// A place with room for any line; what was laid is written where there is none.
+fn with_room(out: &[u8], place: usize) -> usize {
+    if octets::has_room(out.len(), place, lines::LONGEST_LINE) {
+        return place;
+    }
+    flush(out, place);
+    0
+}
+
+// The line of an answer.
+fn say(out: &mut [u8], place: usize, number: u64, verdict: Verdict) -> usize {
+    let at = with_room(out, place);
+    lines::put_line(out, at, number, verdict)
+}
+
+fn say_cut(out: &mut [u8], place: usize) -> usize {
+    let at = with_room(out, place);
+    lines::put_cut(out, at)
+}
+
+// Behind the last frame at hand: more is to be read, or the replay is over.
+fn stop(
+    entry: Entry,
+    hand: usize,
+    at: usize,
+    place: usize,
+    frames: u64,
+    out: &mut [u8],
+) -> Progress {
+    match entry {
+        Entry::More => Progress {
+            hand,
+            at,
+            place,
+            frames,
+            over: false,
+        },
+        Entry::Cut => Progress {
+            hand,
+            at,
+            place: say_cut(out, place),
+            frames,
+            over: true,
+        },
+        _ => Progress {
+            hand,
+            at,
+            place,
+            frames,
+            over: true,
+        },
+    }
+}
+
+// Answers the frames at hand, up to the first that isn't there whole.
+fn answer_hand(
+    log: &[u8],
+    whole: bool,
+    from: Progress,
+    loaded: Loaded,
+    buffer: &mut [u8; frame::LARGEST_FRAME],
+    out: &mut [u8],
+    accounts: &[u8],
+    credits: &mut [u32],
+    lasts: &mut [u64],
+    links: &[u8],
+) -> Progress {
+    let mut at = from.at;
+    let mut place = from.place;
+    let mut frames = from.frames;
+    while frames < u64::MAX {
+        let entry = rig::log::next(log, at, whole);
+        let Entry::Frame(stamp) = entry else {
+            return stop(entry, from.hand, at, place, frames, out);
+        };
+        let verdict = answer(log, stamp, loaded, buffer, accounts, credits, lasts, links);
+        frames += 1;
+        place = say(out, place, frames, verdict);
+        at = stamp.behind;
+    }
+    stop(Entry::End, from.hand, at, place, frames, out)
+}
+
+// Moves what is left at hand to the front and reads on behind it; how many octets are then at hand.
+fn refill(file: i32, log: &mut [u8], at: usize, hand: usize) -> usize
+    ensures { λ r. ⌜ r ≤ length (now (log .exit)) ⌝ }
+{
+    let end = octets::least(hand, log.len());
+    let rest = end - octets::least(at, end);
+    rig::log::to_front(log, at, rest);
+    rest + io::read_full(file, &mut log[rest..])
+}
+
+// One turn: reads on, and answers what is at hand. Octets that don't fill the room for them are the log's last.
+fn turn(
+    file: i32,
+    log: &mut [u8],
+    progress: Progress,
+    loaded: Loaded,
+    buffer: &mut [u8; frame::LARGEST_FRAME],
+    out: &mut [u8],
+    accounts: &[u8],
+    credits: &mut [u32],
+    lasts: &mut [u64],
+    links: &[u8],
+) -> Progress {
+    let hand = refill(file, log, progress.at, progress.hand);
+    let from = Progress {
+        hand,
+        at: 0,
+        place: progress.place,
+        frames: progress.frames,
+        over: false,
+    };
+    let whole = hand < log.len();
+    answer_hand(
+        &log[0..hand],
+        whole,
+        from,
+        loaded,
+        buffer,
+        out,
+        accounts,
+        credits,
+        lasts,
+        links,
+    )
+}
+
+// Turn after turn until the replay is over. The turns are counted down, since nothing says that a file ends.
+fn run(
+    file: i32,
+    log: &mut [u8],
+    start: Progress,
+    loaded: Loaded,
+    buffer: &mut [u8; frame::LARGEST_FRAME],
+    out: &mut [u8],
+    accounts: &[u8],
+    credits: &mut [u32],
+    lasts: &mut [u64],
+    links: &[u8],
+) -> usize {
+    let mut progress = start;
+    let mut turns = u64::MAX;
+    while 0 < turns {
+        if progress.over {
+            return progress.place;
+        }
+        progress = turn(
+            file,
+            log,
+            progress,
+            loaded,
+            buffer,
+            out,
+            accounts,
+            credits,
+            lasts,
+            links,
+        );
+        turns -= 1;
+    }
+    progress.place
+}
+
+// Replays a log that is open for reading, by the tables that were loaded.
+pub(crate) fn replay(
+    file: i32,
+    loaded: Loaded,
+    accounts: &[u8],
+    credits: &mut [u32],
+    lasts: &mut [u64],
+    links: &[u8],
+) {
+    let mut log = [0u8; READ_OCTETS];
+    let mut buffer = [0u8; frame::LARGEST_FRAME];
+    let mut out = [0u8; WRITE_OCTETS];
+    let start = Progress {
+        hand: 0,
+        at: 0,
+        place: lines::put_header(&mut out, 0),
+        frames: 0,
+        over: false,
+    };
+    let place = run(
+        file,
+        &mut log,
+        start,
+        loaded,
+        &mut buffer,
+        &mut out,
+        accounts,
+        credits,
+        lasts,
+        links,
+    );
+    flush(&out, place);
+}

@@ -1,0 +1,13 @@
+-- `unsettled`: by whether more follows. Assumes nothing.
+use Rattle.rig.proofs.Records.{open-cut, open-more}
+use Rattle.rig.proofs.log.unsettled.Statement.{statement}
+use Rattle.rig.proofs.log.unsettled.Tie as tie
+
+returns : tie.Need-returns
+returns c = open-cut _ (c .if1 .taken)
+
+returns-2 : tie.Need-returns-2
+returns-2 c = open-more _ (c .if1 .left)
+
+pub unsettled-spec : {M : Type 1} → statement M
+unsettled-spec = tie.close (tie.spec returns returns-2)

@@ -1,0 +1,44 @@
+-- `judge`: the frame call on a part of the buffer. Assumes nothing.
+use Rattle.rig.proofs.Answering.{part-first, called-same}
+use borrow.Author.Needs.{needs}
+use Rattle.rig.proofs.replies.judge.Statement.{statement}
+use Rattle.rig.proofs.replies.judge.Tie as tie
+
+sub-frame-call : tie.Need-sub-frame-call
+sub-frame-call c = search needs
+
+part-frame-call-start : tie.Need-part-frame-call-start
+part-frame-call-start c = search needs
+
+part-frame-call-end : tie.Need-part-frame-call-end
+part-frame-call-end c = search needs
+
+cast-frame-call : tie.Need-cast-frame-call
+cast-frame-call c = search needs
+
+frame-call-requires : tie.Need-frame-call-requires
+frame-call-requires c κs = search needs
+
+same-length : tie.Need-same-length
+same-length c = search needs
+
+same-length-2 : tie.Need-same-length-2
+same-length-2 c = search needs
+
+returns : tie.Need-returns
+returns c =
+    let a = c .before .before .before .before .before .before .before .before .before .before .before .before .before .before .args in
+    called-same _ _ _ _ (a .stamp .port) (a .stamp .time) _ (part-first (a .stamp .size) (a .buffer .now)) (c .before .before .before .before .frame-call .ensures)
+
+pub judge-spec : {M : Type 1} → statement M
+judge-spec =
+    tie.close
+    (tie.spec
+    sub-frame-call
+    part-frame-call-start
+    part-frame-call-end
+    cast-frame-call
+    frame-call-requires
+    same-length
+    same-length-2
+    returns)

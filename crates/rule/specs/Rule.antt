@@ -1,0 +1,88 @@
+-- Demand 3 for a list of policing steps on one account (document 01, "The terms of demand 3"): what the steps answer, and the
+-- codes by the rule, which names no stored credit.
+use Prim.Native.Nat.{ℕ, _+_, _*_, _≤_}
+use mathlib.Core.Bool.{true, not}
+use mathlib.Core.Path.{_≡_}
+use mathlib.Core.List.{List, [], _∷_, map}
+use mathlib.Core.Logic.{_↔_}
+use lib.Dec.{ltb, eqb}
+use Rattle.octets.specs.Choice.{if_then_else_}
+use Rattle.frame.specs.Frame.{lengthCode}
+use Rattle.account.specs.Terms.{Terms, inLimits, bag, rate, cost}
+use Rattle.account.specs.Account.{loaded}
+use Rattle.account.specs.Step.{Told, policed}
+use Rattle.rule.specs.Bucket.{Reached, reached, lastTime, ruleHolds, FromEach}
+use Rattle.account.specs.declared.Account.{Account}
+
+-- the frame of a policing step
+pub record Arrival : Type 0 where
+  pub octets : ℕ
+  pub time : ℕ
+
+-- ---- the steps: the account is handed on from one to the next
+
+unfoldable pub accountAfter : Account → List Arrival → Account
+accountAfter a [] = a
+accountAfter a (s ∷ steps) = accountAfter (policed a (s .octets) (s .time) .account) steps
+
+unfoldable pub stepsTold : Account → List Arrival → List Told
+stepsTold a [] = []
+stepsTold a (s ∷ steps) =
+    policed a (s .octets) (s .time) .says ∷ stepsTold (policed a (s .octets) (s .time) .account) steps
+
+abbrev pub codes : List Told → List ℕ
+codes = map (λ w. w .code)
+
+-- ---- the rule
+
+-- the allowance of a time: Smax x (BAG + J + that time)
+unfoldable pub allowance : Terms → ℕ → ℕ
+allowance p since = rate p * (bag (p .k) + p .jitter + since)
+
+-- a code by the rule, and the frames that have then reached the account, the newest first
+pub record Ruled : Type 0 where
+  pub code : ℕ
+  pub past : List Reached
+
+abbrev pub ruled : ℕ → List Reached → Ruled
+ruled c past = record { code = c; past = past }
+
+-- a frame that no code before 8 refuses: 8 by the times of the frames that reached the account. Otherwise it reaches the
+-- account, with 0 where the rule holds and 9 where not
+unfoldable pub ruleArrived : Terms → List Reached → ℕ → ℕ → Ruled
+ruleArrived p past n t =
+    if ltb t (lastTime past) then ruled 8 past
+    else if ruleHolds (allowance p) t (cost p n) past then ruled 0 (reached t (cost p n) ∷ past)
+    else ruled 9 (reached t 0 ∷ past)
+
+-- any frame: 1 or 2 by its length, else as above
+unfoldable pub ruleStep : Terms → List Reached → ℕ → ℕ → Ruled
+ruleStep p past n t =
+    if not (eqb (lengthCode n) 0) then ruled (lengthCode n) past else ruleArrived p past n t
+
+-- the codes of a list of steps, and the frames that have then reached the account
+unfoldable pub ruleCodes : Terms → List Reached → List Arrival → List ℕ
+ruleCodes p past [] = []
+ruleCodes p past (s ∷ steps) =
+    ruleStep p past (s .octets) (s .time) .code ∷ ruleCodes p (ruleStep p past (s .octets) (s .time) .past) steps
+
+unfoldable pub rulePast : Terms → List Reached → List Arrival → List Reached
+rulePast p past [] = past
+rulePast p past (s ∷ steps) = rulePast p (ruleStep p past (s .octets) (s .time) .past) steps
+
+-- ---- the claims, from values that an image may have, credit at capacity and last time 0
+
+-- for every list of steps the codes are those of the rule
+abbrev pub RuleOfSteps : Type 0
+RuleOfSteps =
+    (p : Terms) → inLimits p ≡ true → (steps : List Arrival)
+    → codes (stepsTold (loaded p) steps) ≡ ruleCodes p [] steps
+
+-- in words: after any list of steps, a frame that reaches the account gets 0 exactly where the sums from itself and from
+-- every earlier frame that reached it are within the allowance, and 9 where not
+abbrev pub StepsInWords : Type 0
+StepsInWords =
+    (p : Terms) → inLimits p ≡ true → (before : List Arrival) (n t : ℕ)
+    → lengthCode n ≡ 0 → lastTime (rulePast p [] before) ≤ t
+    → ((policed (accountAfter (loaded p) before) n t .says .code ≡ 0) ↔ FromEach (allowance p) t (cost p n) (rulePast p [] before))
+    × ((FromEach (allowance p) t (cost p n) (rulePast p [] before) → ⊥) → policed (accountAfter (loaded p) before) n t .says .code ≡ 9)

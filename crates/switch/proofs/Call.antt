@@ -1,0 +1,141 @@
+-- Laws of the frame call, case by case as the code goes. Assumes nothing.
+use Prim.Native.Nat.{ℕ, _+_, _*_, _/_, _≤_, _<_, min}
+use mathlib.Core.Bool.{Bool, true, false, not, _&&_}
+use mathlib.Core.List.{List}
+use mathlib.Core.Path.{_≡_, refl, sym, ap, _∙_}
+use native.Mathlib.Nat.{zero-add}
+use native.Mathlib.Omega.{arith}
+use lib.ListN.{length, getD, set}
+use lib.Seq.{set-getD}
+use lib.Dec.{eqb}
+use borrow.Author.Tests.{eq-eqb, ne-eqb, eqb-true, eqb-false, not-true, not-false}
+use Rattle.octets.proofs.Tests.{split}
+use Rattle.frame.specs.Frame.{linkNumber}
+use Rattle.account.specs.Account.{accountOf, valid, capacityOf}
+use Rattle.account.specs.Step.{Stepped, policed}
+use Rattle.account.specs.declared.Account.{Account}
+use Rattle.account.proofs.Methods.{none-invalid, some-valid}
+use Rattle.tables.specs.Rows.{Config, accountOctets, termsAt, found}
+use Rattle.tables.specs.Rules.{linkSound}
+use Rattle.tables.specs.declared.Found.{Found}
+use Rattle.tables.specs.declared.Found.the-variants.{At, Nowhere}
+use Rattle.tables.specs.declared.Link.{Link}
+use Rattle.tables.proofs.Rules.{account-past}
+use Rattle.switch.specs.declared.Route.{Route}
+use Rattle.switch.specs.declared.Route.the-variants.{Stopped, Over}
+use Rattle.switch.specs.Verdict.{Told, withMask}
+use Rattle.switch.specs.Filter.{frameCode, portCode, routeTo, routed}
+use Rattle.switch.specs.Call.{State, stateOf, Call, After, inUse, accountsInUse, accountHeld, Decided, kept, stepOn, decided, stored, refusedWith, onLink, onRow, called}
+use Rattle.switch.proofs.Filter.{route-stopped, route-row}
+
+pub in-use-by : (n a c t q r u : ℕ) → q ≡ min c t → r ≡ min (a / accountOctets) q → u ≡ min n r → u ≡ inUse n a c t
+unfolding inUse
+in-use-by n a c t q r u e f g = simp (g, f, e)
+
+-- an account in use is below both runs' lengths
+module _ (n a c t u i : ℕ) (e : u ≡ inUse n a c t) (h : i < u) where
+  pub used-credit : i < c
+  unfolding inUse
+  used-credit = omega arith
+
+  pub used-last : i < t
+  unfolding inUse
+  used-last = omega arith
+
+-- an account read value by value
+pub held-by : (accounts : List ℕ) (s : State) (i x c t : ℕ) (a : Account) → x ≡ accountOctets * i
+    → c ≡ getD (s .credits) i 0 → t ≡ getD (s .lasts) i 0 → a ≡ accountOf (termsAt accounts x) c t → a ≡ accountHeld accounts s i
+unfolding accountHeld
+held-by accounts s i x c t a e p q f =
+    f ∙ (λ k. accountOf (termsAt accounts ((e ∙ sym (zero-add (accountOctets * i))) k)) (p k) (q k))
+
+-- what an account holds, stored again, changes nothing
+pub held-again : (accounts : List ℕ) (s : State) (i : ℕ)
+    → stateOf (set (s .credits) i (accountHeld accounts s i .credit)) (set (s .lasts) i (accountHeld accounts s i .last)) ≡ s
+unfolding accountHeld
+held-again accounts s i = λ k. stateOf (set-getD (s .credits) i 0 k) (set-getD (s .lasts) i 0 k)
+
+-- ---- what is decided
+module _ (l : Link) (used : ℕ) (a : Account) (n port t : ℕ) (r : Bool) (e : r ≡ linkSound l used (a .smax)) where
+  pub decided-link : not r ≡ true → (d : Decided) → d ≡ kept 10 a → d ≡ decided l used a n port t
+  unfolding decided
+  decided-link h d q = q ∙ simp (← e, not-true r h)
+
+  module _ (h : not r ≡ false) (c : ℕ) (f : c ≡ capacityOf a) where
+    pub decided-account : c ≡ 0 → (d : Decided) → d ≡ kept 10 a → d ≡ decided l used a n port t
+    unfolding decided
+    decided-account z d q = q ∙ simp (← e, not-false r h, none-invalid a c f z)
+
+    module _ (z : c ≡ 0 → ⊥) (x : ℕ) (p : x ≡ portCode l n port) where
+      pub decided-port : (x ≡ 0 → ⊥) → (d : Decided) → d ≡ kept x a → d ≡ decided l used a n port t
+      unfolding decided
+      decided-port m d q = q ∙ simp (← e, not-false r h, some-valid a c f z, p, ne-eqb (portCode l n port) 0 (rw p at m))
+
+      pub decided-step : x ≡ 0 → (q : Stepped) (w : Told) → q ≡ policed a n t → w ≡ withMask (l .mask) (q .says)
+          → _≡_ {A = Decided} (record { says = w; credit = q .account .credit; last = q .account .last }) (decided l used a n port t)
+      unfolding decided
+      decided-step m q w u v = simp (v, u, ← e, not-false r h, some-valid a c f z, eq-eqb (portCode l n port) 0 (sym p ∙ m))
+
+-- of a sound link and a valid account
+module _ (l : Link) (used : ℕ) (a : Account) (n port t : ℕ) (e : linkSound l used (a .smax) ≡ true) (v : valid a ≡ true) where
+  pub decided-refused : (portCode l n port ≡ 0 → ⊥) → decided l used a n port t ≡ kept (portCode l n port) a
+  unfolding decided
+  decided-refused h = simp (e, v, ne-eqb _ _ h)
+
+  pub decided-policed : portCode l n port ≡ 0 → decided l used a n port t ≡ stepOn l (policed a n t)
+  unfolding decided
+  decided-policed h = simp (e, v, eq-eqb _ _ h)
+
+-- ---- the call, by the code of the frame alone and the row found
+module _ (g : Config) (s : State) (f : Call) where
+  pub call-refused : (frameCode (g .constant) (f .octets) ≡ 0 → ⊥) → called g s f ≡ refusedWith (frameCode (g .constant) (f .octets)) s
+  unfolding called
+  call-refused h = simp (ne-eqb _ _ h)
+
+  pub call-row : frameCode (g .constant) (f .octets) ≡ 0 → called g s f ≡ onRow g s f (found (g .links) (g .linkCount) (linkNumber (f .octets)))
+  unfolding called
+  call-row z = simp (eq-eqb _ _ z)
+
+-- ---- the call, by its route
+abbrev settled : Config → State → Call → Route → After
+settled g s f (Stopped code) = refusedWith code s
+settled g s f (Over l) = onLink g s f l
+
+row-settled : (g : Config) (s : State) (f : Call) (d : Found) → settled g s f (routeTo (g .links) d) ≡ onRow g s f d
+row-settled g s f Nowhere = refl
+row-settled g s f (At j) = refl
+
+module _ (g : Config) (s : State) (f : Call) (r : Route) (q : r ≡ routed (f .octets) (g .constant) (g .links) (g .linkCount)) where
+  by-route : settled g s f r ≡ called g s f
+  by-route =
+      ap (settled g s f) q
+      ∙ split (eqb (frameCode (g .constant) (f .octets)) 0)
+      (λ e.
+      let z = eqb-true _ _ e in
+      ap (settled g s f) (sym (route-row (f .octets) (g .constant) (g .links) (g .linkCount) _ refl z _ refl _ refl))
+      ∙ row-settled g s f (found (g .links) (g .linkCount) (linkNumber (f .octets)))
+      ∙ sym (call-row g s f z))
+      (λ e.
+      let z = eqb-false _ _ e in
+      ap (settled g s f) (sym (route-stopped (f .octets) (g .constant) (g .links) (g .linkCount) _ refl z)) ∙ sym (call-refused g s f z))
+
+  pub call-stopped : (n : ℕ) → r ≡ Stopped n → refusedWith n s ≡ called g s f
+  call-stopped n h = ap (settled g s f) (sym h) ∙ by-route
+
+  module _ (l : Link) (h : r ≡ Over l) (used : ℕ) (e : used ≡ accountsInUse g s) where
+    pub call-unused : used ≤ l .account → refusedWith 10 s ≡ called g s f
+    unfolding decided
+    call-unused k =
+        let b : linkSound l (accountsInUse g s) (accountHeld (g .accounts) s (l .account) .smax) ≡ false = sym (account-past l _ _ (rw e at k)) in
+        let d : kept 10 (accountHeld (g .accounts) s (l .account)) ≡ decided l (accountsInUse g s) (accountHeld (g .accounts) s (l .account)) (length (f .octets)) (f .port) (f .time) = simp b in
+        ap (refusedWith 10) (sym (held-again (g .accounts) s (l .account)))
+        ∙ ap (stored s (l .account)) d
+        ∙ ap (settled g s f) (sym h)
+        ∙ by-route
+
+    pub call-stored : (a : Account) (d : Decided) → a ≡ accountHeld (g .accounts) s (l .account)
+        → d ≡ decided l used a (length (f .octets)) (f .port) (f .time) → stored s (l .account) d ≡ called g s f
+    call-stored a d p w =
+        ap (stored s (l .account)) (w ∙ (λ k. decided l (e k) (p k) (length (f .octets)) (f .port) (f .time)))
+        ∙ ap (settled g s f) (sym h)
+        ∙ by-route

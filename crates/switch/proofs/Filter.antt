@@ -1,0 +1,109 @@
+-- Laws of the filter, case by case as the code makes its tests. Assumes nothing.
+use Prim.Native.Nat.{ℕ, _+_, _*_, _≤_, _<_}
+use mathlib.Core.Bool.{true}
+use mathlib.Core.List.{List}
+use mathlib.Core.Path.{_≡_, refl, sym, ap, _∙_}
+use native.Mathlib.Nat.{zero-add}
+use native.Mathlib.Omega.{arith}
+use lib.ListN.{length}
+use lib.Dec.{ltb, eqb}
+use borrow.Author.Tests.{lt-ltb, le-ltb, eq-eqb, ne-eqb, eqb-true, eqb-false}
+use Rattle.octets.proofs.Tests.{split}
+use Rattle.frame.specs.Frame.{lengthCode, constantField, linkNumber}
+use Rattle.frame.proofs.Frame.{by-length}
+use Rattle.tables.specs.Rows.{linkOctets, linkAt, linkTable, linkIn, linksInUse, found}
+use Rattle.tables.specs.declared.Found.{Found}
+use Rattle.tables.specs.declared.Found.the-variants.{At, Nowhere}
+use Rattle.tables.specs.declared.Link.{Link}
+use Rattle.tables.proofs.Claims.{first-found}
+use Rattle.tables.proofs.Rows.{row-inside}
+use Rattle.switch.specs.Filter.{frameCode, portCode, routeTo, routed}
+use Rattle.switch.specs.declared.Route.{Route}
+use Rattle.switch.specs.declared.Route.the-variants.{Stopped, Over}
+
+-- ---- the frame alone, by the code h of its length
+module _ (constant : ℕ) (f : List ℕ) (h : ℕ) (e : h ≡ lengthCode (length f)) where
+  pub frame-length : (h ≡ 0 → ⊥) → h ≡ frameCode constant f
+  unfolding frameCode
+  frame-length z = simp (e, ne-eqb (lengthCode (length f)) 0 (rw e at z))
+
+  module _ (z : h ≡ 0) (x : ℕ) (q : x ≡ constantField f) where
+    good-length : eqb (lengthCode (length f)) 0 ≡ true
+    good-length = eq-eqb (lengthCode (length f)) 0 (sym e ∙ z)
+
+    pub frame-constant : (x ≡ constant → ⊥) → 3 ≡ frameCode constant f
+    unfolding frameCode
+    frame-constant d = simp (good-length, ne-eqb (constantField f) constant (rw q at d))
+
+    pub frame-passes : x ≡ constant → 0 ≡ frameCode constant f
+    unfolding frameCode
+    frame-passes d = simp (good-length, eq-eqb (constantField f) constant (sym q ∙ d))
+
+-- a frame of code 0 has the size of a frame
+pub frame-zero : (constant : ℕ) (f : List ℕ) → frameCode constant f ≡ 0 → lengthCode (length f) ≡ 0
+frame-zero constant f e =
+    split (eqb (lengthCode (length f)) 0)
+    (λ z. eqb-true _ _ z)
+    (λ z. frame-length constant f (lengthCode (length f)) refl (eqb-false _ _ z) ∙ e)
+
+pub frame-code-high : (constant : ℕ) (f : List ℕ) → frameCode constant f ≤ 3
+frame-code-high constant f =
+    by-length (length f)
+    (λ _ e. rw (← frame-length constant f 1 (sym e) (λ d. omega arith)) (omega arith))
+    (λ _ _ e. rw (← frame-length constant f 2 (sym e) (λ d. omega arith)) (omega arith))
+    (λ _ _ e.
+    split (eqb (constantField f) constant)
+    (λ d. rw (← frame-passes constant f 0 (sym e) refl (constantField f) refl (eqb-true _ _ d)) (omega arith))
+    (λ d. rw (← frame-constant constant f 0 (sym e) refl (constantField f) refl (eqb-false _ _ d)) (omega arith)))
+
+-- ---- the link
+module _ (l : Link) (n port : ℕ) where
+  pub port-other : (port ≡ l .port → ⊥) → 5 ≡ portCode l n port
+  unfolding portCode
+  port-other d = simp (ne-eqb _ _ d)
+
+  module _ (d : port ≡ l .port) where
+    pub port-small : n < l .smallest → 6 ≡ portCode l n port
+    unfolding portCode
+    port-small h = simp (eq-eqb _ _ d, lt-ltb _ _ h)
+
+    module _ (h : l .smallest ≤ n) where
+      pub port-large : l .largest < n → 7 ≡ portCode l n port
+      unfolding portCode
+      port-large k = simp (eq-eqb _ _ d, le-ltb _ _ h, lt-ltb _ _ k)
+
+      pub port-passes : n ≤ l .largest → 0 ≡ portCode l n port
+      unfolding portCode
+      port-passes k = simp (eq-eqb _ _ d, le-ltb _ _ h, le-ltb _ _ k)
+
+  pub port-code-high : portCode l n port ≤ 7
+  unfolding portCode
+  port-code-high =
+      split (eqb port (l .port))
+      (λ e. split (ltb n (l .smallest))
+      (λ d. simp (e, d) (omega arith))
+      (λ d. split (ltb (l .largest) n) (λ c. simp (e, d, c) (omega arith)) (λ c. simp (e, d, c) (omega arith))))
+      (λ e. simp e (omega arith))
+
+-- ---- the route, by the code h of the frame alone
+module _ (f : List ℕ) (constant : ℕ) (links : List ℕ) (count h : ℕ) (e : h ≡ frameCode constant f) where
+  pub route-stopped : (h ≡ 0 → ⊥) → Stopped h ≡ routed f constant links count
+  unfolding routed
+  route-stopped z = simp (e, ne-eqb (frameCode constant f) 0 (rw e at z))
+
+  module _ (z : h ≡ 0) (x : ℕ) (p : x ≡ linkNumber f) (d : Found) (q : d ≡ found links count x) where
+    pub route-row : routeTo links d ≡ routed f constant links count
+    unfolding routed
+    route-row = simp (q, p, eq-eqb (frameCode constant f) 0 (sym e ∙ z))
+
+    pub route-unknown : d ≡ Nowhere → Stopped 4 ≡ routed f constant links count
+    route-unknown r = ap (routeTo links) (sym r) ∙ route-row
+
+    pub route-over : (j : ℕ) (l : Link) → d ≡ At j → l ≡ linkAt links (linkOctets * j) → Over l ≡ routed f constant links count
+    route-over j l r k =
+        ap Over (k ∙ ap (linkAt links) (sym (zero-add (linkOctets * j)))) ∙ ap (routeTo links) (sym r) ∙ route-row
+
+-- a row that is found lies inside the run
+pub found-inside : (links : List ℕ) (count x j : ℕ) (d : Found) → d ≡ found links count x → d ≡ At j → linkOctets * j + linkOctets ≤ length links
+found-inside links count x j d e r =
+    row-inside links count (linksInUse links count) j refl (first-found (linkTable links) (linksInUse links count) x j (sym e ∙ r) .0)

@@ -1,0 +1,106 @@
+-- The frame call (document 01, "Codes, in order of checking"): what it answers, and the credits and last times that it leaves. For
+-- any tables, counts, frame, port and time whatsoever.
+use Prim.Native.Nat.{ℕ, _/_, min}
+use mathlib.Core.Bool.{not, _&&_}
+use mathlib.Core.List.{List}
+use lib.ListN.{length, getD, set}
+use lib.Dec.{eqb}
+use Rattle.octets.specs.Choice.{if_then_else_}
+use Rattle.account.specs.Account.{accountOf, valid}
+use Rattle.account.specs.Step.{Stepped, policed}
+use Rattle.account.specs.declared.Account.{Account}
+use Rattle.frame.specs.Frame.{linkNumber}
+use Rattle.tables.specs.Rows.{Config, accountOctets, accountTable, accountIn, linkTable, linkIn, found}
+use Rattle.tables.specs.Rules.{linkSound}
+use Rattle.tables.specs.declared.Found.{Found}
+use Rattle.tables.specs.declared.Found.the-variants.{At, Nowhere}
+use Rattle.tables.specs.declared.Link.{Link}
+use Rattle.switch.specs.declared.Decision.{Decision}
+use Rattle.switch.specs.declared.Verdict.the-variants.{Refused}
+use Rattle.switch.specs.Verdict.{Told, told, withMask}
+use Rattle.switch.specs.Filter.{frameCode, portCode}
+
+-- what a call may change
+pub record State : Type 0 where
+  pub credits : List ℕ
+  pub lasts : List ℕ
+
+abbrev pub stateOf : List ℕ → List ℕ → State
+stateOf c t = record { credits = c; lasts = t }
+
+-- a call: the frame's octets, the port that it came in on, its time
+pub record Call : Type 0 where
+  pub octets : List ℕ
+  pub port : ℕ
+  pub time : ℕ
+
+abbrev pub callOf : List ℕ → ℕ → ℕ → Call
+callOf f p t = record { octets = f; port = p; time = t }
+
+-- what it says, and what it leaves
+pub record After : Type 0 where
+  pub says : Told
+  pub state : State
+
+abbrev pub afterOf : Told → State → After
+afterOf w s = record { says = w; state = s }
+
+-- accounts in use ("Accounts and links"): a count larger than the rows of the shortest run lent is read as those
+unfoldable pub inUse : ℕ → ℕ → ℕ → ℕ → ℕ
+inUse count accounts credits lasts = min count (min (accounts / accountOctets) (min credits lasts))
+
+abbrev pub accountsInUse : Config → State → ℕ
+accountsInUse g s = inUse (g .accountCount) (length (g .accounts)) (length (s .credits)) (length (s .lasts))
+
+-- account a: its row, its credit and its last time
+unfoldable pub accountHeld : List ℕ → State → ℕ → Account
+accountHeld accounts s a = accountOf (accountIn (accountTable accounts) a) (getD (s .credits) a 0) (getD (s .lasts) a 0)
+
+-- ---- for a link and its account: what is said, with the credit and the last time that the account then has
+pub record Decided : Type 0 where
+  pub says : Told
+  pub credit : ℕ
+  pub last : ℕ
+
+abbrev pub decisionOf : Decision → Decided
+decisionOf d = record { says = told (d .verdict); credit = d .credit; last = d .last }
+
+-- a refusal keeps both; the policing step gives them anew
+abbrev pub kept : ℕ → Account → Decided
+kept code a = record { says = told (Refused code); credit = a .credit; last = a .last }
+
+abbrev pub stepOn : Link → Stepped → Decided
+stepOn l q = record { says = withMask (l .mask) (q .says); credit = q .account .credit; last = q .account .last }
+
+-- 10 where the link's row or the account breaks a rule or the credit is above the capacity; then 5, 6 and 7; then the step
+unfoldable pub decided : Link → ℕ → Account → ℕ → ℕ → ℕ → Decided
+decided l used a n port t =
+    if not (linkSound l used (a .smax) && valid a) then kept 10 a
+    else if not (eqb (portCode l n port) 0) then kept (portCode l n port) a
+    else stepOn l (policed a n t)
+
+-- what is decided for account a, stored
+abbrev pub stored : State → ℕ → Decided → After
+stored s a d = afterOf (d .says) (stateOf (set (s .credits) a (d .credit)) (set (s .lasts) a (d .last)))
+
+-- ---- the call
+
+abbrev pub refusedWith : ℕ → State → After
+refusedWith code s = afterOf (told (Refused code)) s
+
+-- on a link: its account decides, and what is decided is stored
+abbrev pub onLink : Config → State → Call → Link → After
+onLink g s f l =
+    stored s (l .account)
+    (decided l (accountsInUse g s) (accountHeld (g .accounts) s (l .account)) (length (f .octets)) (f .port) (f .time))
+
+-- 4 where no row in use has the frame's number, else the first that has it
+abbrev pub onRow : Config → State → Call → Found → After
+onRow g s f Nowhere = refusedWith 4 s
+onRow g s f (At j) = onLink g s f (linkIn (linkTable (g .links)) j)
+
+-- 1, 2 and 3 by the frame alone
+unfoldable pub called : Config → State → Call → After
+called g s f =
+    if not (eqb (frameCode (g .constant) (f .octets)) 0) then refusedWith (frameCode (g .constant) (f .octets)) s
+    else onRow g s f (found (g .links) (g .linkCount) (linkNumber (f .octets)))

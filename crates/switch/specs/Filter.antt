@@ -1,0 +1,41 @@
+-- The codes of the filter (document 01, "Codes, in order of checking", 1 to 7 without 10). The frame call and the rule over a
+-- history both cite `frameCode` and `portCode`; `routed` is what one function of the code finds.
+use Prim.Native.Nat.{ℕ}
+use mathlib.Core.Bool.{not}
+use mathlib.Core.List.{List}
+use lib.ListN.{length}
+use lib.Dec.{ltb, eqb}
+use Rattle.octets.specs.Choice.{if_then_else_}
+use Rattle.frame.specs.Frame.{lengthCode, constantField, linkNumber}
+use Rattle.tables.specs.Rows.{linkTable, linkIn, found}
+use Rattle.tables.specs.declared.Found.{Found}
+use Rattle.tables.specs.declared.Found.the-variants.{At, Nowhere}
+use Rattle.tables.specs.declared.Link.{Link}
+use Rattle.switch.specs.declared.Route.{Route}
+use Rattle.switch.specs.declared.Route.the-variants.{Stopped, Over}
+
+-- by the frame alone: the first of 1, 2 and 3 that fits, or 0
+unfoldable pub frameCode : ℕ → List ℕ → ℕ
+frameCode constant f =
+    if not (eqb (lengthCode (length f)) 0) then lengthCode (length f)
+    else if not (eqb (constantField f) constant) then 3
+    else 0
+
+-- by the link, for a frame of n octets on a port: the first of 5, 6 and 7 that fits, or 0
+unfoldable pub portCode : Link → ℕ → ℕ → ℕ
+portCode l n port =
+    if not (eqb port (l .port)) then 5
+    else if ltb n (l .smallest) then 6
+    else if ltb (l .largest) n then 7
+    else 0
+
+-- what the code finds before it looks at an account: the first of 1, 2, 3 and 4 that fits, or the link of the first row in use that
+-- has the frame's number
+abbrev pub routeTo : List ℕ → Found → Route
+routeTo links Nowhere = Stopped 4
+routeTo links (At j) = Over (linkIn (linkTable links) j)
+
+unfoldable pub routed : List ℕ → ℕ → List ℕ → ℕ → Route
+routed f constant links count =
+    if not (eqb (frameCode constant f) 0) then Stopped (frameCode constant f)
+    else routeTo links (found links count (linkNumber f))

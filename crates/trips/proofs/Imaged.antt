@@ -1,0 +1,170 @@
+-- The fields of an image, found again in its octets; and octets that are laid out as fields, spelled as an image. Assumes nothing.
+use Prim.Native.Nat.{ℕ, suc, _+_, _*_, _^_, _≤_, _<_}
+use mathlib.Core.List.{List, [], _∷_, _++_}
+use mathlib.Core.Path.{_≡_, refl, sym, ap, ap₂, _∙_}
+use native.Mathlib.Nat.{add-zero, zero-add, add-assoc}
+use native.Mathlib.Omega.{arith}
+use lib.ListN.{length, getD, length-append, List·getD-append}
+use lib.Seq.{getD-append-add}
+use Rattle.octets.specs.Numbers.{numberAt, octetsOf}
+use Rattle.octets.specs.Runs.{octetsAt, joined}
+use Rattle.octets.proofs.Numbers.{number-shift, number-octets, length-octets}
+use Rattle.octets.proofs.Parts.{length-part, getD-part, part-is, part-front, part-behind, part-join, part-whole, part-joined, joined-at, joined-same, octets-number}
+use Rattle.tables.specs.Rows.{Config, accountOctets, linkOctets}
+use Rattle.layout.specs.Layout.{headTag, accountTag, linkTag, endTag, edition, fieldOf, imageOf, tagAndLength, headSize, accountSize, linkSize, fieldPlace, imageLength}
+use Rattle.image_octets.proofs.Laying.{length-field, length-fields, head-size, rowField, length-row-field}
+
+-- ---- where links stand
+place-link : (n j : ℕ) → fieldPlace n j ≡ fieldPlace n 0 + linkSize * j
+unfolding fieldPlace
+place-link n j = omega arith
+
+-- ---- the octets of one field
+module _ (tag : ℕ) (bytes : List ℕ) where
+  field-tag : getD (fieldOf tag bytes) 0 0 ≡ tag
+  unfolding fieldOf
+  field-tag = refl
+
+  field-length : (k : ℕ) → k < 2 → getD (fieldOf tag bytes) (1 + k) 0 ≡ getD (octetsOf 2 (length bytes)) (0 + k) 0
+  unfolding fieldOf
+  field-length k l =
+      let o = length-octets 2 (length bytes) in
+      let a : 1 + k ≡ suc k = omega arith in
+      rw (a, zero-add k) (List·getD-append (octetsOf 2 (length bytes)) bytes 0 k (omega arith))
+
+  field-data : (k : ℕ) → getD (fieldOf tag bytes) (tagAndLength + k) 0 ≡ getD bytes k 0
+  unfolding fieldOf
+  field-data k =
+      let o = length-octets 2 (length bytes) in
+      let a : length (tag ∷ octetsOf 2 (length bytes)) + k ≡ tagAndLength + k = omega arith in
+      ap (λ (i : ℕ). getD ((tag ∷ octetsOf 2 (length bytes)) ++ bytes) i 0) (sym a) ∙ getD-append-add (tag ∷ octetsOf 2 (length bytes)) bytes k 0
+
+-- a field that stands at a place: its tag, its length and its data are read there
+module _ (s : List ℕ) (at w tag : ℕ) (bytes : List ℕ) (l : length bytes ≡ w) (e : octetsAt (tagAndLength + w) s at ≡ fieldOf tag bytes) where
+  octet : (k : ℕ) → k < tagAndLength + w → getD s (at + k) 0 ≡ getD (fieldOf tag bytes) k 0
+  octet k h = sym (getD-part (tagAndLength + w) s at k h) ∙ ap (λ (xs : List ℕ). getD xs k 0) e
+
+  pub tag-read : getD s at 0 ≡ tag
+  tag-read = ap (λ (i : ℕ). getD s i 0) (sym (add-zero at)) ∙ octet 0 (omega arith) ∙ field-tag tag bytes
+
+  pub length-read : w < 2 ^ 16 → numberAt 2 s (at + 1) ≡ w
+  length-read h =
+      number-shift 2 s (octetsOf 2 (length bytes)) (at + 1) 0
+      (λ k b. ap (λ (i : ℕ). getD s i 0) (add-assoc at 1 k) ∙ octet (1 + k) (omega arith) ∙ field-length tag bytes k b)
+      ∙ number-octets 2 (length bytes) (omega arith)
+      ∙ l
+
+  pub data-read : octetsAt w s (at + tagAndLength) ≡ bytes
+  data-read =
+      part-is w s (at + tagAndLength) bytes l
+      (λ k b. ap (λ (i : ℕ). getD s i 0) (add-assoc at tagAndLength k) ∙ octet (tagAndLength + k) (omega arith) ∙ field-data tag bytes k)
+
+-- and back: a tag and a length before w octets make a field of them
+pub field-spelled : (s : List ℕ) (at w tag : ℕ) → ((i : ℕ) → getD s i 0 < 256) → getD s at 0 ≡ tag → numberAt 2 s (at + 1) ≡ w
+    → octetsAt (tagAndLength + w) s at ≡ fieldOf tag (octetsAt w s (at + tagAndLength))
+unfolding fieldOf
+field-spelled s at w tag o t n =
+    let two : octetsAt 2 s (at + 1) ≡ octetsOf 2 (length (octetsAt w s (at + tagAndLength))) =
+    sym (octets-number 2 s (at + 1) o) ∙ ap (octetsOf 2) (n ∙ sym (length-part w s (at + tagAndLength))) in
+    let one : octetsAt 1 s at ≡ tag ∷ [] = part-is 1 s at (tag ∷ []) refl (λ k l. let z : k ≡ 0 = omega arith in rw (z, add-zero at) t) in
+    part-join tagAndLength w s at
+    ∙ ap (λ (xs : List ℕ). xs ++ octetsAt w s (at + tagAndLength)) (part-join 1 2 s at ∙ ap₂ _++_ one two)
+
+-- ---- the fields of an image
+module _ (g : Config) where
+  abbrev head : List ℕ
+  head = fieldOf headTag (edition ∷ octetsOf 4 (g .constant))
+
+  abbrev accounts : List ℕ
+  accounts = joined (rowField accountTag accountOctets (g .accounts)) (g .accountCount)
+
+  abbrev links : List ℕ
+  links = joined (rowField linkTag linkOctets (g .links)) (g .linkCount)
+
+  length-front : length (head ++ accounts) ≡ fieldPlace (g .accountCount) 0
+  unfolding fieldPlace
+  length-front =
+      let a = head-size (g .constant) in
+      let b = length-fields accountTag accountOctets (g .accounts) (g .accountCount) in
+      length-append head accounts ∙ omega arith
+
+  length-before-end : length (head ++ accounts ++ links) ≡ fieldPlace (g .accountCount) (g .linkCount)
+  unfolding fieldPlace
+  length-before-end =
+      let a = head-size (g .constant) in
+      let b = length-fields accountTag accountOctets (g .accounts) (g .accountCount) in
+      let c = length-fields linkTag linkOctets (g .links) (g .linkCount) in
+      let d = length-append head accounts in
+      length-append (head ++ accounts) links ∙ omega arith
+
+  pub image-head : octetsAt headSize (imageOf g) 0 ≡ head
+  unfolding imageOf
+  image-head =
+      let a = head-size (g .constant) in
+      let b = length-append head accounts in
+      let c = length-append (head ++ accounts) links in
+      part-front headSize (head ++ accounts ++ links) (fieldOf endTag []) 0 (omega arith)
+      ∙ part-front headSize (head ++ accounts) links 0 (omega arith)
+      ∙ part-front headSize head accounts 0 (omega arith)
+      ∙ part-is headSize head 0 head a (λ k l. ap (λ (i : ℕ). getD head i 0) (zero-add k))
+
+  pub image-account : (i : ℕ) → i < g .accountCount → octetsAt accountSize (imageOf g) (fieldPlace i 0) ≡ rowField accountTag accountOctets (g .accounts) i
+  unfolding imageOf fieldPlace
+  image-account i h =
+      let a = head-size (g .constant) in
+      let b = length-append head accounts in
+      let c = length-append (head ++ accounts) links in
+      let d = length-fields accountTag accountOctets (g .accounts) (g .accountCount) in
+      let p : headSize + accountSize * i + linkSize * 0 ≡ headSize + accountSize * i = omega arith in
+      ap (octetsAt accountSize (head ++ accounts ++ links ++ fieldOf endTag [])) p
+      ∙ part-front accountSize (head ++ accounts ++ links) (fieldOf endTag []) (headSize + accountSize * i) (omega arith)
+      ∙ part-front accountSize (head ++ accounts) links (headSize + accountSize * i) (omega arith)
+      ∙ part-behind accountSize head accounts headSize (accountSize * i) a
+      ∙ joined-at (rowField accountTag accountOctets (g .accounts)) accountSize (length-row-field accountTag accountOctets (g .accounts)) (g .accountCount) i h
+
+  pub image-link : (j : ℕ) → j < g .linkCount → octetsAt linkSize (imageOf g) (fieldPlace (g .accountCount) j) ≡ rowField linkTag linkOctets (g .links) j
+  unfolding imageOf
+  image-link j h =
+      let p : fieldPlace (g .accountCount) j ≡ fieldPlace (g .accountCount) 0 + linkSize * j = place-link (g .accountCount) j in
+      let a = length-front in
+      let c = length-append (head ++ accounts) links in
+      let d = length-fields linkTag linkOctets (g .links) (g .linkCount) in
+      let q : fieldPlace (g .accountCount) 0 + linkSize * j + linkSize ≤ length (head ++ accounts ++ links) = omega arith in
+      ap (octetsAt linkSize (head ++ accounts ++ links ++ fieldOf endTag [])) p
+      ∙ part-front linkSize (head ++ accounts ++ links) (fieldOf endTag []) (fieldPlace (g .accountCount) 0 + linkSize * j) q
+      ∙ part-behind linkSize (head ++ accounts) links (fieldPlace (g .accountCount) 0) (linkSize * j) a
+      ∙ joined-at (rowField linkTag linkOctets (g .links)) linkSize (length-row-field linkTag linkOctets (g .links)) (g .linkCount) j h
+
+  pub image-end : octetsAt (tagAndLength + 0) (imageOf g) (fieldPlace (g .accountCount) (g .linkCount)) ≡ fieldOf endTag []
+  unfolding imageOf
+  image-end =
+      ap (octetsAt (tagAndLength + 0) (head ++ accounts ++ links ++ fieldOf endTag [])) (sym (add-zero (fieldPlace (g .accountCount) (g .linkCount))))
+      ∙ part-behind (tagAndLength + 0) (head ++ accounts ++ links) (fieldOf endTag []) (fieldPlace (g .accountCount) (g .linkCount)) 0 length-before-end
+      ∙ part-is (tagAndLength + 0) (fieldOf endTag []) 0 (fieldOf endTag []) (length-field endTag []) (λ k l. ap (λ (i : ℕ). getD (fieldOf endTag []) i 0) (zero-add k))
+
+-- ---- octets in which every field is spelled are the image
+pub image-spelled : (g : Config) (s : List ℕ) → length s ≡ imageLength (g .accountCount) (g .linkCount)
+    → octetsAt headSize s 0 ≡ fieldOf headTag (edition ∷ octetsOf 4 (g .constant))
+    → ((i : ℕ) → i < g .accountCount → octetsAt accountSize s (fieldPlace i 0) ≡ rowField accountTag accountOctets (g .accounts) i)
+    → ((j : ℕ) → j < g .linkCount → octetsAt linkSize s (fieldPlace (g .accountCount) j) ≡ rowField linkTag linkOctets (g .links) j)
+    → octetsAt tagAndLength s (fieldPlace (g .accountCount) (g .linkCount)) ≡ fieldOf endTag []
+    → imageOf g ≡ s
+unfolding imageOf fieldPlace
+image-spelled g s l h a k e =
+    let n : ℕ = g .accountCount in
+    let m : ℕ = g .linkCount in
+    let a1 : octetsAt (accountSize * n) s (0 + headSize) ≡ joined (rowField accountTag accountOctets (g .accounts)) n =
+    part-joined accountSize n s (0 + headSize)
+    ∙ joined-same (λ i. octetsAt accountSize s (0 + headSize + accountSize * i)) (rowField accountTag accountOctets (g .accounts)) n
+    (λ i b. let p : 0 + headSize + accountSize * i ≡ headSize + accountSize * i + linkSize * 0 = omega arith in ap (octetsAt accountSize s) p ∙ a i b) in
+    let k1 : octetsAt (linkSize * m) s (0 + (headSize + accountSize * n)) ≡ joined (rowField linkTag linkOctets (g .links)) m =
+    part-joined linkSize m s (0 + (headSize + accountSize * n))
+    ∙ joined-same (λ j. octetsAt linkSize s (0 + (headSize + accountSize * n) + linkSize * j)) (rowField linkTag linkOctets (g .links)) m
+    (λ j b. let p : 0 + (headSize + accountSize * n) + linkSize * j ≡ headSize + accountSize * n + linkSize * j = omega arith in ap (octetsAt linkSize s) p ∙ k j b) in
+    let e1 : octetsAt tagAndLength s (0 + (headSize + accountSize * n + linkSize * m)) ≡ fieldOf endTag [] = ap (octetsAt tagAndLength s) (zero-add _) ∙ e in
+    sym (sym (part-whole s)
+    ∙ ap (λ (w : ℕ). octetsAt w s 0) l
+    ∙ part-join (headSize + accountSize * n + linkSize * m) tagAndLength s 0
+    ∙ ap₂ _++_
+    (part-join (headSize + accountSize * n) (linkSize * m) s 0 ∙ ap₂ _++_ (part-join headSize (accountSize * n) s 0 ∙ ap₂ _++_ h a1) k1)
+    e1)
