@@ -25,7 +25,7 @@ use Rattle.image.specs.declared.Loaded.{Loaded}
 use Rattle.loader.proofs.Fresh.{load-accepts, fresh-holds, fresh-sound}
 use Rattle.image.proofs.Bench.{image-p-reads}
 use Rattle.trips.specs.Trips.{loadedTables}
-use Rattle.switch.specs.Filter.{frameCode, portCode}
+use Rattle.filter.specs.Filter.{frameCode, portCode, routed}
 use Rattle.switch.specs.Call.{State, stateOf, inUse, accountHeld, decided, called}
 use Rattle.demands.specs.History.{answers, final, configIn, stateIn}
 use Rattle.demands.specs.Rule.{imageTerms, meant}
@@ -75,11 +75,11 @@ abbrev full : State
 full = stateOf (300000 ∷ []) (0 ∷ [])
 
 computed : answers (config-by accountP answerP) full (calls byteCases) ≡ verdicts byteCases
-unfolding answers called frameCode lengthCode numberAt foundIn leading linkAt accountHeld termsAt inUse decided portsSound sizesSound linkSound inLimits bag charge rate capacity charged cost valid creditAt judged policed portCode
+unfolding answers called routed frameCode lengthCode numberAt foundIn leading linkAt accountHeld termsAt inUse decided portsSound sizesSound linkSound inLimits bag charge rate capacity charged cost valid creditAt judged policed portCode
 computed = refl
 
 computed-frame : answers (config-by accountP1 answerP) full (calls frameCases) ≡ verdicts frameCases
-unfolding answers called frameCode lengthCode numberAt foundIn leading linkAt accountHeld termsAt inUse decided portsSound sizesSound linkSound inLimits bag charge rate capacity charged cost valid creditAt judged policed portCode
+unfolding answers called routed frameCode lengthCode numberAt foundIn leading linkAt accountHeld termsAt inUse decided portsSound sizesSound linkSound inLimits bag charge rate capacity charged cost valid creditAt judged policed portCode
 computed-frame = refl
 
 -- ---- and from every load
@@ -115,7 +115,7 @@ module _ (s account : List ℕ) (e : readImage s ≡ answerP) (fresh : Fresh s (
       )
 
 computed-left : final (config-by accountP answerP) full (calls byteCases) ≡ stateOf (100000 ∷ []) ((2 ^ 64 - 1) ∷ [])
-unfolding final called frameCode lengthCode numberAt foundIn leading linkAt accountHeld termsAt inUse decided portsSound sizesSound linkSound inLimits bag charge rate capacity charged cost valid creditAt judged policed portCode
+unfolding final called routed frameCode lengthCode numberAt foundIn leading linkAt accountHeld termsAt inUse decided portsSound sizesSound linkSound inLimits bag charge rate capacity charged cost valid creditAt judged policed portCode
 computed-left = refl
 
 terms-p : (imageTerms imageP 0 ≡ termsP byteMode) × (imageTerms frameImageP 0 ≡ termsP frameMode)

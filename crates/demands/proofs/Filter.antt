@@ -17,10 +17,10 @@ use Rattle.tables.specs.declared.Found.the-variants.{At, Nowhere}
 use Rattle.tables.specs.declared.Link.{Link}
 use Rattle.tables.proofs.Claims.{first-found, found-same}
 use Rattle.image.specs.Read.{linkFields, readImage}
-use Rattle.switch.specs.Filter.{frameCode, portCode}
-use Rattle.switch.specs.Call.{State, Call, After, refusedWith, onLink, onRow, called}
-use Rattle.switch.proofs.Filter.{frame-zero}
-use Rattle.switch.proofs.Call.{call-refused, call-row}
+use Rattle.filter.specs.Filter.{frameCode, portCode}
+use Rattle.switch.specs.Call.{State, Call, After, refusedWith, onLink, called}
+use Rattle.filter.proofs.Filter.{frame-zero}
+use Rattle.switch.proofs.Call.{onRow, call-refused, call-row}
 use Rattle.demands.specs.Rule.{imageLink, linkRow, linkCode, filterCode, names, destinationOctets, meant, passing}
 use Rattle.demands.proofs.Tables.{Tables}
 

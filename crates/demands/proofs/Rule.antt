@@ -29,11 +29,11 @@ use Rattle.tables.proofs.Rules.{sound-account}
 use Rattle.image.specs.Read.{readImage}
 use Rattle.loader.specs.Loading.{Runs}
 use Rattle.loader.specs.Fresh.{Fresh}
-use Rattle.switch.specs.Filter.{portCode}
+use Rattle.filter.specs.Filter.{portCode}
 use Rattle.switch.specs.Verdict.{Told, told, withMask}
 use Rattle.switch.specs.Call.{State, stateOf, Call, After, accountsInUse, inUse, accountHeld, Decided, kept, decided, stored, refusedWith, onLink, called}
 use Rattle.switch.specs.declared.Verdict.the-variants.{Refused}
-use Rattle.switch.proofs.Filter.{frame-zero}
+use Rattle.filter.proofs.Filter.{frame-zero}
 use Rattle.switch.proofs.Call.{held-again, decided-refused, decided-policed}
 use Rattle.demands.specs.History.{answers, final, codes, configIn, stateIn, only}
 use Rattle.demands.specs.Rule.{imageTerms, imageLink, linkRow, filterCode, passing, arrivalOf, reachedIn, accountNamed, ruleCode, ruleCodesAfter, ruleCodes}

@@ -20,7 +20,7 @@ use Rattle.image.specs.declared.Loaded.{Loaded}
 use Rattle.loader.proofs.Fresh.{load-fresh}
 use Rattle.trips.specs.Trips.{loadedTables}
 use Rattle.switch.specs.Call.{Call, called}
-use Rattle.switch.proofs.Filter.{frame-code-high, port-code-high}
+use Rattle.filter.proofs.Filter.{frame-code-high, port-code-high}
 use Rattle.demands.specs.History.{answers, final, codes, configIn, stateIn}
 use Rattle.demands.specs.Rule.{imageTerms, imageLink, linkRow, filterCode, reachedIn, accountNamed, ruleCode, ruleCodesAfter}
 use Rattle.demands.specs.Demand3.{RuleOfHistory, Judged, RuleInWords, OthersInWords, TenNever}

@@ -15,7 +15,7 @@ use Rattle.tables.specs.declared.Found.{Found}
 use Rattle.tables.specs.declared.Found.the-variants.{At, Nowhere}
 use Rattle.tables.specs.declared.Link.{Link}
 use Rattle.image.specs.Read.{accountFields, linkFields, readImage}
-use Rattle.switch.specs.Filter.{frameCode, portCode}
+use Rattle.filter.specs.Filter.{frameCode, portCode}
 use Rattle.switch.specs.Call.{Call}
 use Rattle.demands.specs.History.{only}
 

@@ -3,7 +3,7 @@
 ghost use mathlib.Core.Path.{_≡_};
 ghost use Rattle.octets.specs.Runs.{octetsAt};
 ghost use Rattle.switch.specs.Verdict.{told};
-ghost use Rattle.lines.specs.Text.{wordOf, frameLine, lineOf, refusedLine, headerLine, cutLine, laid, laidOf};
+ghost use Rattle.lines.specs.Text.{wordOf, frameLine, lineOf, refusedLine, headerLine, cutLine, longestLine, laid, laidOf};
 ghost use mathlib.Core.Option.{none, some};
 
 mod digits;
@@ -23,6 +23,13 @@ const FORWARDED: u8 = 0;
 const LATE: u8 = 8;
 
 const SHORT: u8 = 9;
+
+// The longest line as a value: it is the figure that the definitions give.
+pub fn longest_line() -> usize
+    ensures { λ r. ⌜ r ≡ longestLine ⌝ }
+{
+    LONGEST_LINE
+}
 
 // The first octets of a run laid as a line.
 fn lay(text: &[u8], size: usize, out: &mut [u8], at: usize) -> usize

@@ -16,7 +16,7 @@ use Rattle.tables.specs.Rows.{Config}
 use Rattle.switch.specs.Verdict.{told}
 use Rattle.switch.specs.declared.Verdict.the-variants.{Refused}
 use Rattle.switch.specs.Call.{State, callOf, After, afterOf, called}
-use Rattle.switch.proofs.Filter.{frame-length, route-stopped}
+use Rattle.filter.proofs.Filter.{frame-length, route-stopped}
 use Rattle.switch.proofs.Call.{call-stopped}
 use Rattle.rig.specs.declared.log.Stamped.{Stamped}
 use Rattle.rig.specs.Answer.{answeredOf, answered, recordCall}

@@ -7,9 +7,7 @@ use native.Mathlib.Nat.{zero-add}
 use native.Mathlib.Omega.{arith}
 use lib.ListN.{length, getD, set}
 use lib.Seq.{set-getD}
-use lib.Dec.{eqb}
-use borrow.Author.Tests.{eq-eqb, ne-eqb, eqb-true, eqb-false, not-true, not-false}
-use Rattle.octets.proofs.Tests.{split}
+use borrow.Author.Tests.{eq-eqb, ne-eqb, not-true, not-false}
 use Rattle.frame.specs.Frame.{linkNumber}
 use Rattle.account.specs.Account.{accountOf, valid, capacityOf}
 use Rattle.account.specs.Step.{Stepped, policed}
@@ -18,15 +16,14 @@ use Rattle.account.proofs.Methods.{none-invalid, some-valid}
 use Rattle.tables.specs.Rows.{Config, accountOctets, termsAt, found}
 use Rattle.tables.specs.Rules.{linkSound}
 use Rattle.tables.specs.declared.Found.{Found}
-use Rattle.tables.specs.declared.Found.the-variants.{At, Nowhere}
 use Rattle.tables.specs.declared.Link.{Link}
 use Rattle.tables.proofs.Rules.{account-past}
-use Rattle.switch.specs.declared.Route.{Route}
-use Rattle.switch.specs.declared.Route.the-variants.{Stopped, Over}
+use Rattle.filter.specs.declared.Route.{Route}
+use Rattle.filter.specs.declared.Route.the-variants.{Stopped, Over}
 use Rattle.switch.specs.Verdict.{Told, withMask}
-use Rattle.switch.specs.Filter.{frameCode, portCode, routeTo, routed}
-use Rattle.switch.specs.Call.{State, stateOf, Call, After, inUse, accountsInUse, accountHeld, Decided, kept, stepOn, decided, stored, refusedWith, onLink, onRow, called}
-use Rattle.switch.proofs.Filter.{route-stopped, route-row}
+use Rattle.filter.specs.Filter.{frameCode, portCode, routeTo, routed}
+use Rattle.switch.specs.Call.{State, stateOf, Call, After, inUse, accountsInUse, accountHeld, Decided, kept, stepOn, decided, stored, refusedWith, onLink, settled, called}
+use Rattle.filter.proofs.Filter.{route-stopped, route-row}
 
 pub in-use-by : (n a c t q r u : ℕ) → q ≡ min c t → r ≡ min (a / accountOctets) q → u ≡ min n r → u ≡ inUse n a c t
 unfolding inUse
@@ -87,37 +84,23 @@ module _ (l : Link) (used : ℕ) (a : Account) (n port t : ℕ) (e : linkSound l
   decided-policed h = simp (e, v, eq-eqb _ _ h)
 
 -- ---- the call, by the code of the frame alone and the row found
+abbrev pub onRow : Config → State → Call → Found → After
+onRow g s f d = settled g s f (routeTo (g .links) d)
+
 module _ (g : Config) (s : State) (f : Call) where
   pub call-refused : (frameCode (g .constant) (f .octets) ≡ 0 → ⊥) → called g s f ≡ refusedWith (frameCode (g .constant) (f .octets)) s
   unfolding called
-  call-refused h = simp (ne-eqb _ _ h)
+  call-refused h = ap (settled g s f) (sym (route-stopped (f .octets) (g .constant) (g .links) (g .linkCount) _ refl h))
 
   pub call-row : frameCode (g .constant) (f .octets) ≡ 0 → called g s f ≡ onRow g s f (found (g .links) (g .linkCount) (linkNumber (f .octets)))
   unfolding called
-  call-row z = simp (eq-eqb _ _ z)
+  call-row z = ap (settled g s f) (sym (route-row (f .octets) (g .constant) (g .links) (g .linkCount) _ refl z _ refl _ refl))
 
 -- ---- the call, by its route
-abbrev settled : Config → State → Call → Route → After
-settled g s f (Stopped code) = refusedWith code s
-settled g s f (Over l) = onLink g s f l
-
-row-settled : (g : Config) (s : State) (f : Call) (d : Found) → settled g s f (routeTo (g .links) d) ≡ onRow g s f d
-row-settled g s f Nowhere = refl
-row-settled g s f (At j) = refl
-
 module _ (g : Config) (s : State) (f : Call) (r : Route) (q : r ≡ routed (f .octets) (g .constant) (g .links) (g .linkCount)) where
   by-route : settled g s f r ≡ called g s f
-  by-route =
-      ap (settled g s f) q
-      ∙ split (eqb (frameCode (g .constant) (f .octets)) 0)
-      (λ e.
-      let z = eqb-true _ _ e in
-      ap (settled g s f) (sym (route-row (f .octets) (g .constant) (g .links) (g .linkCount) _ refl z _ refl _ refl))
-      ∙ row-settled g s f (found (g .links) (g .linkCount) (linkNumber (f .octets)))
-      ∙ sym (call-row g s f z))
-      (λ e.
-      let z = eqb-false _ _ e in
-      ap (settled g s f) (sym (route-stopped (f .octets) (g .constant) (g .links) (g .linkCount) _ refl z)) ∙ sym (call-refused g s f z))
+  unfolding called
+  by-route = ap (settled g s f) q
 
   pub call-stopped : (n : ℕ) → r ≡ Stopped n → refusedWith n s ≡ called g s f
   call-stopped n h = ap (settled g s f) (sym h) ∙ by-route

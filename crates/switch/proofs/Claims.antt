@@ -29,12 +29,12 @@ use Rattle.tables.proofs.Rules.{account-past, sound-port}
 use Rattle.switch.specs.declared.Verdict.{Verdict}
 use Rattle.switch.specs.declared.Verdict.the-variants.{Forwarded, Short, Late, Refused}
 use Rattle.switch.specs.Verdict.{Told, tells, told, withMask}
-use Rattle.switch.specs.Filter.{frameCode, portCode}
-use Rattle.switch.specs.Call.{State, stateOf, Call, After, accountsInUse, accountHeld, Decided, kept, stepOn, decided, stored, refusedWith, onLink, onRow, called}
+use Rattle.filter.specs.Filter.{frameCode, portCode}
+use Rattle.switch.specs.Call.{State, stateOf, Call, After, accountsInUse, accountHeld, Decided, kept, stepOn, decided, stored, refusedWith, onLink, called}
 use Rattle.switch.specs.Claims.{VerdictsApart, CallAnswers, RefusedCallKeeps, LengthAlone, Line, line, firstFit, linkLines, rowLines, codeTable, CodesInOrder}
 use Rattle.switch.specs.Claims.{Effects, RowEffects, CallEffects, PortsBeyond, SameInUse, RowsBeyondUnread}
-use Rattle.switch.proofs.Filter.{frame-length, frame-constant, frame-passes, frame-code-high, frame-zero, port-other, port-small, port-large, port-passes, port-code-high}
-use Rattle.switch.proofs.Call.{held-again, decided-refused, decided-policed, call-refused, call-row}
+use Rattle.filter.proofs.Filter.{frame-length, frame-constant, frame-passes, frame-code-high, frame-zero, port-other, port-small, port-large, port-passes, port-code-high}
+use Rattle.switch.proofs.Call.{held-again, decided-refused, decided-policed, onRow, call-refused, call-row}
 
 -- ---- a verdict, from what it tells
 heard : Told → Verdict

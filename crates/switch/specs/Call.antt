@@ -9,16 +9,15 @@ use Rattle.octets.specs.Choice.{if_then_else_}
 use Rattle.account.specs.Account.{accountOf, valid}
 use Rattle.account.specs.Step.{Stepped, policed}
 use Rattle.account.specs.declared.Account.{Account}
-use Rattle.frame.specs.Frame.{linkNumber}
-use Rattle.tables.specs.Rows.{Config, accountOctets, accountTable, accountIn, linkTable, linkIn, found}
+use Rattle.tables.specs.Rows.{Config, accountOctets, accountTable, accountIn}
 use Rattle.tables.specs.Rules.{linkSound}
-use Rattle.tables.specs.declared.Found.{Found}
-use Rattle.tables.specs.declared.Found.the-variants.{At, Nowhere}
 use Rattle.tables.specs.declared.Link.{Link}
 use Rattle.switch.specs.declared.Decision.{Decision}
 use Rattle.switch.specs.declared.Verdict.the-variants.{Refused}
 use Rattle.switch.specs.Verdict.{Told, told, withMask}
-use Rattle.switch.specs.Filter.{frameCode, portCode}
+use Rattle.filter.specs.Filter.{portCode, routed}
+use Rattle.filter.specs.declared.Route.{Route}
+use Rattle.filter.specs.declared.Route.the-variants.{Stopped, Over}
 
 -- what a call may change
 pub record State : Type 0 where
@@ -94,13 +93,11 @@ onLink g s f l =
     stored s (l .account)
     (decided l (accountsInUse g s) (accountHeld (g .accounts) s (l .account)) (length (f .octets)) (f .port) (f .time))
 
--- 4 where no row in use has the frame's number, else the first that has it
-abbrev pub onRow : Config → State → Call → Found → After
-onRow g s f Nowhere = refusedWith 4 s
-onRow g s f (At j) = onLink g s f (linkIn (linkTable (g .links)) j)
+-- by what the filter finds: its code, or the link
+abbrev pub settled : Config → State → Call → Route → After
+settled g s f (Stopped code) = refusedWith code s
+settled g s f (Over l) = onLink g s f l
 
--- 1, 2 and 3 by the frame alone
+-- the filter, then the link's account
 unfoldable pub called : Config → State → Call → After
-called g s f =
-    if not (eqb (frameCode (g .constant) (f .octets)) 0) then refusedWith (frameCode (g .constant) (f .octets)) s
-    else onRow g s f (found (g .links) (g .linkCount) (linkNumber (f .octets)))
+called g s f = settled g s f (routed (f .octets) (g .constant) (g .links) (g .linkCount))

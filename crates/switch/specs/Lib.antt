@@ -1,4 +1,3 @@
 pub mod Call
 pub mod Claims
-pub mod Filter
 pub mod Verdict

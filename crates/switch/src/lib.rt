@@ -4,24 +4,12 @@ ghost use lib.ListN.{getD};
 ghost use Rattle.account.specs.Step.{told as stepTold};
 ghost use Rattle.tables.specs.Rows.{configOf};
 ghost use Rattle.switch.specs.Verdict.{told, withMask};
-ghost use Rattle.switch.specs.Filter.{frameCode, portCode, routed};
 ghost use Rattle.switch.specs.Call.{inUse, accountHeld, decisionOf, kept, decided, stateOf, callOf, afterOf, called};
 use account::Account;
 use account::Outcome;
 use account::UNSOUND;
-use tables::Found;
+use filter::Route;
 use tables::Link;
-
-// Codes 3, 4, 5, 6 and 7; 1 and 2 are frame's, 10 and the rest the policing step's.
-const OTHER_CONSTANT: u8 = 3;
-
-const UNKNOWN_LINK: u8 = 4;
-
-const OTHER_PORT: u8 = 5;
-
-const TOO_SMALL: u8 = 6;
-
-const TOO_LARGE: u8 = 7;
 
 // The answer of a frame call: forwarded with the output ports and the credit left, short or late with the credit held,
 // or refused with its code.
@@ -32,63 +20,11 @@ pub enum Verdict {
     Refused(u8),
 }
 
-// What is found before the account is looked at: a refusal's code, or the link.
-enum Route {
-    Stopped(u8),
-    Over(Link),
-}
-
 // A verdict, with the credit and the last time that the account then has.
 struct Decision {
     verdict: Verdict,
     credit: u32,
     last: u64,
-}
-
-// The first of the codes 1, 2 and 3 that fits, or 0.
-fn frame_code(frame: &[u8], constant: u32) -> u8
-    ensures { λ r. ⌜ r ≡ frameCode constant (now (frame .entry)) ⌝ }
-{
-    let code = frame::length_code(frame.len());
-    if code != 0 {
-        return code;
-    }
-    if frame::constant_field(frame) != constant {
-        return OTHER_CONSTANT;
-    }
-    0
-}
-
-// The link of a frame, or the code that stops it before: 1, 2, 3 or 4.
-fn find_link(frame: &[u8], constant: u32, links: &[u8], count: usize) -> Route
-    ensures { λ r. ⌜ r ≡ routed (now (frame .entry)) constant (now (links .entry)) count ⌝ }
-{
-    let code = frame_code(frame, constant);
-    if code != 0 {
-        return Route::Stopped(code);
-    }
-    let number = frame::link_number(frame);
-    let found = tables::find(links, count, number);
-    match found {
-        Found::Nowhere => Route::Stopped(UNKNOWN_LINK),
-        Found::At(row) => Route::Over(tables::link_at(links, tables::LINK_OCTETS * row)),
-    }
-}
-
-// The first of the codes 5, 6 and 7 that fits, or 0.
-fn port_code(link: Link, octets: usize, port: u32) -> u8
-    ensures { λ r. ⌜ r ≡ portCode link octets port ⌝ }
-{
-    if port != link.port as u32 {
-        return OTHER_PORT;
-    }
-    if octets < link.smallest as usize {
-        return TOO_SMALL;
-    }
-    if (link.largest as usize) < octets {
-        return TOO_LARGE;
-    }
-    0
 }
 
 // A policing step's answer as a verdict on a link with this mask.
@@ -132,7 +68,7 @@ fn decide(
     if account.capacity() == 0 {
         return refused(UNSOUND, account);
     }
-    let code = port_code(link, octets, port);
+    let code = filter::port_code(link, octets, port);
     if code != 0 {
         return refused(code, account);
     }
@@ -200,7 +136,7 @@ pub fn frame_call(
         (callOf (now (frame .entry)) port time) ⌝ }
 {
     let used = in_use(account_count, accounts.len(), credits.len(), lasts.len());
-    match find_link(frame, constant, links, link_count) {
+    match filter::find_link(frame, constant, links, link_count) {
         Route::Stopped(code) => Verdict::Refused(code),
         Route::Over(link) => {
             let a = link.account as usize;

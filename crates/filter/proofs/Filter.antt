@@ -17,9 +17,9 @@ use Rattle.tables.specs.declared.Found.the-variants.{At, Nowhere}
 use Rattle.tables.specs.declared.Link.{Link}
 use Rattle.tables.proofs.Claims.{first-found}
 use Rattle.tables.proofs.Rows.{row-inside}
-use Rattle.switch.specs.Filter.{frameCode, portCode, routeTo, routed}
-use Rattle.switch.specs.declared.Route.{Route}
-use Rattle.switch.specs.declared.Route.the-variants.{Stopped, Over}
+use Rattle.filter.specs.Filter.{frameCode, portCode, routeTo, routed}
+use Rattle.filter.specs.declared.Route.{Route}
+use Rattle.filter.specs.declared.Route.the-variants.{Stopped, Over}
 
 -- ---- the frame alone, by the code h of its length
 module _ (constant : ℕ) (f : List ℕ) (h : ℕ) (e : h ≡ lengthCode (length f)) where

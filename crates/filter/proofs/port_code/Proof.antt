@@ -1,8 +1,8 @@
 -- `port_code`: the port, then both sizes. Assumes nothing.
-use Rattle.switch.proofs.Filter.{port-other, port-small, port-large, port-passes}
+use Rattle.filter.proofs.Filter.{port-other, port-small, port-large, port-passes}
 use borrow.Author.Needs.{needs}
-use Rattle.switch.proofs.port_code.Statement.{statement}
-use Rattle.switch.proofs.port_code.Tie as tie
+use Rattle.filter.proofs.port_code.Statement.{statement}
+use Rattle.filter.proofs.port_code.Tie as tie
 
 cast-if1 : tie.Need-cast-if1
 cast-if1 c = search needs

@@ -1,8 +1,8 @@
 -- `frame_code`: the length, then the constant field. Assumes nothing.
-use Rattle.switch.proofs.Filter.{frame-length, frame-constant, frame-passes}
+use Rattle.filter.proofs.Filter.{frame-length, frame-constant, frame-passes}
 use borrow.Author.Needs.{needs}
-use Rattle.switch.proofs.frame_code.Statement.{statement}
-use Rattle.switch.proofs.frame_code.Tie as tie
+use Rattle.filter.proofs.frame_code.Statement.{statement}
+use Rattle.filter.proofs.frame_code.Tie as tie
 
 length-code-requires : tie.Need-length-code-requires
 length-code-requires c κs = search needs

@@ -1,9 +1,9 @@
 -- `find_link`: the frame alone, then the search for its number. Assumes nothing.
 use native.Mathlib.Omega.{arith}
-use Rattle.switch.proofs.Filter.{route-stopped, route-unknown, route-over, found-inside}
+use Rattle.filter.proofs.Filter.{route-stopped, route-unknown, route-over, found-inside}
 use borrow.Author.Needs.{needs}
-use Rattle.switch.proofs.find_link.Statement.{statement}
-use Rattle.switch.proofs.find_link.Tie as tie
+use Rattle.filter.proofs.find_link.Statement.{statement}
+use Rattle.filter.proofs.find_link.Tie as tie
 
 frame-code-requires : tie.Need-frame-code-requires
 frame-code-requires c κs = search needs

@@ -1,5 +1,5 @@
 -- The codes of the filter (document 01, "Codes, in order of checking", 1 to 7 without 10). The frame call and the rule over a
--- history both cite `frameCode` and `portCode`; `routed` is what one function of the code finds.
+-- history both cite them.
 use Prim.Native.Nat.{ℕ}
 use mathlib.Core.Bool.{not}
 use mathlib.Core.List.{List}
@@ -11,8 +11,8 @@ use Rattle.tables.specs.Rows.{linkTable, linkIn, found}
 use Rattle.tables.specs.declared.Found.{Found}
 use Rattle.tables.specs.declared.Found.the-variants.{At, Nowhere}
 use Rattle.tables.specs.declared.Link.{Link}
-use Rattle.switch.specs.declared.Route.{Route}
-use Rattle.switch.specs.declared.Route.the-variants.{Stopped, Over}
+use Rattle.filter.specs.declared.Route.{Route}
+use Rattle.filter.specs.declared.Route.the-variants.{Stopped, Over}
 
 -- by the frame alone: the first of 1, 2 and 3 that fits, or 0
 unfoldable pub frameCode : ℕ → List ℕ → ℕ
@@ -29,12 +29,12 @@ portCode l n port =
     else if ltb (l .largest) n then 7
     else 0
 
--- what the code finds before it looks at an account: the first of 1, 2, 3 and 4 that fits, or the link of the first row in use that
--- has the frame's number
+-- by the row that has the frame's number: 4 where there is none, else its link
 abbrev pub routeTo : List ℕ → Found → Route
 routeTo links Nowhere = Stopped 4
 routeTo links (At j) = Over (linkIn (linkTable links) j)
 
+-- what comes before the account: 1, 2 or 3, else 4 or the link of the first row in use that has the number
 unfoldable pub routed : List ℕ → ℕ → List ℕ → ℕ → Route
 routed f constant links count =
     if not (eqb (frameCode constant f) 0) then Stopped (frameCode constant f)

@@ -1,0 +1,69 @@
+// The filter of a frame: the codes that are checked before a link's account is looked at, and the link itself. All
+// functions are total.
+ghost use mathlib.Core.Path.{_≡_};
+ghost use Rattle.filter.specs.Filter.{frameCode, portCode, routed};
+use tables::Found;
+use tables::Link;
+
+// Codes 3, 4, 5, 6 and 7; 1 and 2 are frame's.
+const OTHER_CONSTANT: u8 = 3;
+
+const UNKNOWN_LINK: u8 = 4;
+
+const OTHER_PORT: u8 = 5;
+
+const TOO_SMALL: u8 = 6;
+
+const TOO_LARGE: u8 = 7;
+
+// What is found before the account is looked at: a refusal's code, or the link.
+pub enum Route {
+    Stopped(u8),
+    Over(Link),
+}
+
+// The first of the codes 1, 2 and 3 that fits, or 0.
+pub fn frame_code(frame: &[u8], constant: u32) -> u8
+    ensures { λ r. ⌜ r ≡ frameCode constant (now (frame .entry)) ⌝ }
+{
+    let code = frame::length_code(frame.len());
+    if code != 0 {
+        return code;
+    }
+    if frame::constant_field(frame) != constant {
+        return OTHER_CONSTANT;
+    }
+    0
+}
+
+// The link of a frame, or the code that stops it before: 1, 2, 3 or 4.
+pub fn find_link(frame: &[u8], constant: u32, links: &[u8], count: usize) -> Route
+    ensures { λ r. ⌜ r ≡ routed (now (frame .entry)) constant (now (links .entry)) count ⌝ }
+{
+    let code = frame_code(frame, constant);
+    if code != 0 {
+        return Route::Stopped(code);
+    }
+    let number = frame::link_number(frame);
+    let found = tables::find(links, count, number);
+    match found {
+        Found::Nowhere => Route::Stopped(UNKNOWN_LINK),
+        Found::At(row) => Route::Over(tables::link_at(links, tables::LINK_OCTETS * row)),
+    }
+}
+
+// The first of the codes 5, 6 and 7 that fits, or 0.
+pub fn port_code(link: Link, octets: usize, port: u32) -> u8
+    ensures { λ r. ⌜ r ≡ portCode link octets port ⌝ }
+{
+    if port != link.port as u32 {
+        return OTHER_PORT;
+    }
+    if octets < link.smallest as usize {
+        return TOO_SMALL;
+    }
+    if (link.largest as usize) < octets {
+        return TOO_LARGE;
+    }
+    0
+}
