@@ -1,24 +1,23 @@
 -- The filter over the tables of a history is the filter by the image: a call is refused with the first code before 8 that fits, or goes
 -- over to the account with the image's link. And which frames pass to which account. Assumes nothing.
-use Prim.Native.Nat.{ℕ, _*_, _/_, _≤_, _<_, min}
+use Prim.Native.Nat.{ℕ, _<_}
 use mathlib.Core.Bool.{Bool, true, false, _&&_, and-true, and-false}
 use mathlib.Core.List.{List}
-use mathlib.Core.Path.{_≡_, refl, sym, ap, ap₂, _∙_, subst}
+use mathlib.Core.Path.{_≡_, refl, sym, ap, ap₂, _∙_}
 use native.Mathlib.Omega.{arith}
 use lib.ListN.{length}
 use lib.Dec.{leb, eqb}
 use borrow.Author.Tests.{le-leb, eq-eqb, ne-eqb, eqb-true, eqb-false}
-use Rattle.octets.proofs.Tests.{split, both}
-use Rattle.frame.specs.Frame.{lengthCode, constantField, linkNumber}
+use Rattle.octets.proofs.Tests.{split}
+use Rattle.frame.specs.Frame.{linkNumber}
 use Rattle.frame.proofs.Frame.{within}
-use Rattle.tables.specs.Rows.{Config, linkOctets, linkTable, linkIn, linksInUse, foundIn, found}
+use Rattle.tables.specs.Rows.{Config, linkTable, linksInUse, foundIn, found}
 use Rattle.tables.specs.declared.Found.{Found}
 use Rattle.tables.specs.declared.Found.the-variants.{At, Nowhere}
-use Rattle.tables.specs.declared.Link.{Link}
 use Rattle.tables.proofs.Claims.{first-found, found-same}
 use Rattle.image.specs.Read.{linkFields, readImage}
 use Rattle.filter.specs.Filter.{frameCode, portCode}
-use Rattle.switch.specs.Call.{State, Call, After, refusedWith, onLink, called}
+use Rattle.switch.specs.Call.{State, Call, refusedWith, onLink, called}
 use Rattle.filter.proofs.Filter.{frame-zero}
 use Rattle.switch.proofs.Call.{onRow, call-refused, call-row}
 use Rattle.demands.specs.Rule.{imageLink, linkRow, linkCode, filterCode, names, destinationOctets, meant, passing}

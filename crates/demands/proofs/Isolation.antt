@@ -1,7 +1,7 @@
 -- Demand 3's second half: what a frame meant for an account is answered, and what the account then holds, go by the image and by the
 -- frames meant for it. Assumes nothing.
 use Prim.Native.Nat.{ℕ, _<_}
-use mathlib.Core.Bool.{Bool, true, false, not, _&&_, false≢true}
+use mathlib.Core.Bool.{true, false, not, false≢true}
 use mathlib.Core.List.{List, [], _∷_, _++_, map}
 use mathlib.Core.Path.{_≡_, refl, sym, ap, ap₂, _∙_, subst}
 use lib.ListN.{length, getD}
@@ -9,7 +9,6 @@ use lib.Dec.{leb, eqb}
 use borrow.Author.Tests.{eqb-true}
 use Rattle.octets.specs.Choice.{if_then_else_}
 use Rattle.octets.proofs.Tests.{split, both}
-use Rattle.account.specs.Account.{accountOf}
 use Rattle.account.specs.Step.{policed}
 use Rattle.rule.specs.Rule.{rulePast}
 use Rattle.account.specs.declared.Account.{Account}
@@ -25,10 +24,10 @@ use Rattle.switch.specs.declared.Verdict.the-variants.{Refused}
 use Rattle.switch.specs.Call.{State, Call, accountHeld}
 use Rattle.demands.specs.History.{answers, final, configIn, stateIn, only, answersTo}
 use Rattle.demands.specs.Rule.{imageTerms, imageLink, linkRow, filterCode, names, destinationOctets, meant, passing, arrivalOf, reachedIn}
-use Rattle.demands.specs.Demand3.{SameAnswers, Isolation, IsolationOfFreshTables}
+use Rattle.demands.specs.Demand3.{Isolation, IsolationOfFreshTables}
 use Rattle.demands.proofs.Lists.{only-take, only-drop, only-more, only-same, only-only}
 use Rattle.demands.proofs.Tables.{tables}
-use Rattle.demands.proofs.Rule.{link-verdict, verdict-for, account-of, Stands, verdicts-after, history-verdicts, history-stands, starts}
+use Rattle.demands.proofs.Rule.{link-verdict, verdict-for, account-of, verdicts-after, history-verdicts, history-stands, starts}
 use Rattle.demands.proofs.Words.{loaded-fresh, loaded-config}
 
 module _ (s : List ℕ) (a : ℕ) where

@@ -1,7 +1,7 @@
 -- Demand 3's first half. Each account stays the one that the frames which reached it leave, so that every call answers with the code of
 -- the rule, and with data that the image and those frames settle. Assumes nothing.
-use Prim.Native.Nat.{ℕ, _+_, _*_, _/_, _≤_, _<_, min}
-use mathlib.Core.Bool.{Bool, true, false, not}
+use Prim.Native.Nat.{ℕ, _+_, _≤_, _<_}
+use mathlib.Core.Bool.{true, false, not}
 use mathlib.Core.List.{List, [], _∷_, _++_, map, map-append, append-nil}
 use mathlib.Core.Path.{_≡_, refl, sym, ap, ap₂, _∙_, subst}
 use native.Mathlib.Omega.{arith}
@@ -12,16 +12,14 @@ use borrow.Author.Tests.{eq-eqb, ne-eqb, eqb-true, eqb-false}
 use Rattle.octets.specs.Choice.{if_then_else_}
 use Rattle.octets.proofs.Tests.{split}
 use Rattle.frame.specs.Frame.{lengthCode}
-use Rattle.account.specs.Terms.{Terms, inLimits}
+use Rattle.account.specs.Terms.{Terms}
 use Rattle.account.specs.Account.{accountOf, valid}
 use Rattle.account.specs.Step.{policed}
-use Rattle.rule.specs.Bucket.{Reached}
-use Rattle.rule.specs.Rule.{Arrival, ruleArrived, ruleStep, rulePast}
+use Rattle.rule.specs.Rule.{ruleArrived, rulePast}
 use Rattle.account.specs.declared.Account.{Account}
 use Rattle.rule.proofs.Rule.{Sound, state, Agree, step-arrived, state-valid, arrival, state-loaded}
 use Rattle.account.proofs.Step.{policed-keeps}
-use Rattle.tables.specs.Rows.{Config, accountOctets, accountTable, accountIn}
-use Rattle.tables.specs.Rules.{linkSound}
+use Rattle.tables.specs.Rows.{Config}
 use Rattle.tables.specs.declared.Found.{Found}
 use Rattle.tables.specs.declared.Found.the-variants.{At, Nowhere}
 use Rattle.tables.specs.declared.Link.{Link}
@@ -36,7 +34,7 @@ use Rattle.switch.specs.declared.Verdict.the-variants.{Refused}
 use Rattle.filter.proofs.Filter.{frame-zero}
 use Rattle.switch.proofs.Call.{held-again, decided-refused, decided-policed}
 use Rattle.demands.specs.History.{answers, final, codes, configIn, stateIn, only}
-use Rattle.demands.specs.Rule.{imageTerms, imageLink, linkRow, filterCode, passing, arrivalOf, reachedIn, accountNamed, ruleCode, ruleCodesAfter, ruleCodes}
+use Rattle.demands.specs.Rule.{imageTerms, imageLink, linkRow, filterCode, passing, arrivalOf, reachedIn, ruleCode, ruleCodesAfter}
 use Rattle.demands.specs.Demand3.{RuleOfFreshTables}
 use Rattle.demands.proofs.Lists.{only-more, only-same, rule-snoc}
 use Rattle.demands.proofs.Tables.{Tables, tables, long, starts-loaded}

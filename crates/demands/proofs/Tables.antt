@@ -2,13 +2,12 @@
 use Prim.Native.Nat.{ℕ, _*_, _≤_, _<_}
 use mathlib.Core.Bool.{true}
 use mathlib.Core.List.{List}
-use mathlib.Core.Path.{_≡_, refl, sym, ap, ap₂, _∙_}
+use mathlib.Core.Path.{_≡_, refl, sym, ap, _∙_}
 use lib.ListN.{length}
 use Rattle.account.specs.Terms.{Terms, inLimits, capacity}
 use Rattle.account.specs.Account.{accountOf, loaded}
 use Rattle.tables.specs.Rows.{Config, accountOctets, linkOctets, accountTable, linkTable, accountIn, linkIn}
 use Rattle.tables.specs.Rules.{linkSound, accountGood}
-use Rattle.tables.specs.declared.Link.{Link}
 use Rattle.tables.proofs.Rules.{sound-account}
 use Rattle.image.specs.Read.{readImage}
 use Rattle.loader.specs.Loading.{Runs}

@@ -2,7 +2,7 @@
 use Prim.Native.Nat.{ℕ, _≤_, _<_}
 use mathlib.Core.List.{List, [], _∷_, _++_, List·Memᴰ, List·Memᴰ·not-nil, List·Memᴰ·cases-cons}
 use mathlib.Core.Logic.{⊎-elim}
-use mathlib.Core.Path.{_≡_, refl, sym, ap, _∙_, subst}
+use mathlib.Core.Path.{_≡_, ap, _∙_, subst}
 use native.Mathlib.Omega.{arith}
 use lib.ListN.{length}
 use lib.Dec.{ltb, eqb}
@@ -23,10 +23,10 @@ use Rattle.switch.specs.Call.{Call, called}
 use Rattle.filter.proofs.Filter.{frame-code-high, port-code-high}
 use Rattle.demands.specs.History.{answers, final, codes, configIn, stateIn}
 use Rattle.demands.specs.Rule.{imageTerms, imageLink, linkRow, filterCode, reachedIn, accountNamed, ruleCode, ruleCodesAfter}
-use Rattle.demands.specs.Demand3.{RuleOfHistory, Judged, RuleInWords, OthersInWords, TenNever}
+use Rattle.demands.specs.Demand3.{RuleOfHistory, RuleInWords, OthersInWords, TenNever}
 use Rattle.demands.proofs.Tables.{tables}
 use Rattle.demands.proofs.Filter.{filter-frame, filter-unknown, filter-link, by-filter}
-use Rattle.demands.proofs.Rule.{Stands, one-call, history-stands, starts, rule-of-fresh-tables}
+use Rattle.demands.proofs.Rule.{one-call, history-stands, starts, rule-of-fresh-tables}
 
 -- ---- from loading
 module _ (s : List ℕ) (r : Runs) (z : loading s r .answer .code ≡ 0) where

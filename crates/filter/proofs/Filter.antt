@@ -11,14 +11,13 @@ use borrow.Author.Tests.{lt-ltb, le-ltb, eq-eqb, ne-eqb, eqb-true, eqb-false}
 use Rattle.octets.proofs.Tests.{split}
 use Rattle.frame.specs.Frame.{lengthCode, constantField, linkNumber}
 use Rattle.frame.proofs.Frame.{by-length}
-use Rattle.tables.specs.Rows.{linkOctets, linkAt, linkTable, linkIn, linksInUse, found}
+use Rattle.tables.specs.Rows.{linkOctets, linkAt, linkTable, linksInUse, found}
 use Rattle.tables.specs.declared.Found.{Found}
 use Rattle.tables.specs.declared.Found.the-variants.{At, Nowhere}
 use Rattle.tables.specs.declared.Link.{Link}
 use Rattle.tables.proofs.Claims.{first-found}
 use Rattle.tables.proofs.Rows.{row-inside}
 use Rattle.filter.specs.Filter.{frameCode, portCode, routeTo, routed}
-use Rattle.filter.specs.declared.Route.{Route}
 use Rattle.filter.specs.declared.Route.the-variants.{Stopped, Over}
 
 -- ---- the frame alone, by the code h of its length

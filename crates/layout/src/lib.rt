@@ -1,6 +1,6 @@
 // The layout of a configuration image: tags, sizes, limits, and where a field stands.
 ghost use mathlib.Core.Path.{_≡_};
-ghost use Rattle.layout.specs.Layout.{accountSize, linkSize, fieldPlace, dataPlace, constantGood};
+ghost use Rattle.layout.specs.Layout.{accountSize, linkSize, fieldPlace, dataPlace, imagePrefix, constantGood};
 ghost use Rattle.tables.specs.Rows.{spacing};
 use tables::Spacing;
 
@@ -33,10 +33,22 @@ pub const MAX_ACCOUNTS: u16 = 64;
 
 pub const MAX_LINKS: u16 = 256;
 
+// The octets of an image that settle what it is answered, however long it is.
+pub const IMAGE_PREFIX: usize = HEAD_SIZE
+    + ACCOUNT_SIZE * MAX_ACCOUNTS as usize
+    + LINK_SIZE * (MAX_LINKS as usize + 1);
+
 // The octet of the head's edition, and the first of its constant field.
 pub const EDITION_PLACE: usize = TAG_AND_LENGTH;
 
 pub const CONSTANT_PLACE: usize = EDITION_PLACE + 1;
+
+// The prefix as a value: it is the figure that the definitions give.
+pub fn image_prefix() -> usize
+    ensures { λ r. ⌜ r ≡ imagePrefix ⌝ }
+{
+    IMAGE_PREFIX
+}
 
 // The offset of the field behind so many accounts and links.
 pub fn field_place(accounts: u16, links: u16) -> usize

@@ -13,7 +13,7 @@ const LINK_ROWS: usize = tables::LINK_OCTETS * layout::MAX_LINKS as usize;
 
 // Loads `rig.cfg`; a file that can't be opened or read is empty. No more of it is read than settles its answer.
 fn load(accounts: &mut [u8], credits: &mut [u32], lasts: &mut [u64], links: &mut [u8]) -> Loaded {
-    let mut image = [0u8; rig::IMAGE_PREFIX];
+    let mut image = [0u8; layout::IMAGE_PREFIX];
     let file = os::open_read(b"rig.cfg");
     let n = io::read_full(file, &mut image);
     libc::close(file);

@@ -1,6 +1,6 @@
 -- Laws of the frame call, case by case as the code goes. Assumes nothing.
-use Prim.Native.Nat.{ℕ, _+_, _*_, _/_, _≤_, _<_, min}
-use mathlib.Core.Bool.{Bool, true, false, not, _&&_}
+use Prim.Native.Nat.{ℕ, _*_, _/_, _≤_, _<_, min}
+use mathlib.Core.Bool.{Bool, true, false, not}
 use mathlib.Core.List.{List}
 use mathlib.Core.Path.{_≡_, refl, sym, ap, _∙_}
 use native.Mathlib.Nat.{zero-add}
@@ -22,7 +22,7 @@ use Rattle.filter.specs.declared.Route.{Route}
 use Rattle.filter.specs.declared.Route.the-variants.{Stopped, Over}
 use Rattle.switch.specs.Verdict.{Told, withMask}
 use Rattle.filter.specs.Filter.{frameCode, portCode, routeTo, routed}
-use Rattle.switch.specs.Call.{State, stateOf, Call, After, inUse, accountsInUse, accountHeld, Decided, kept, stepOn, decided, stored, refusedWith, onLink, settled, called}
+use Rattle.switch.specs.Call.{State, stateOf, Call, After, inUse, accountsInUse, accountHeld, Decided, kept, stepOn, decided, stored, refusedWith, settled, called}
 use Rattle.filter.proofs.Filter.{route-stopped, route-row}
 
 pub in-use-by : (n a c t q r u : ℕ) → q ≡ min c t → r ≡ min (a / accountOctets) q → u ≡ min n r → u ≡ inUse n a c t

@@ -6,16 +6,15 @@ use mathlib.Core.Logic.{_⊎_, inl, inr}
 use mathlib.Core.Option.{Option, none, some}
 use mathlib.Core.Path.{_≡_, refl, sym, ap, _∙_, subst}
 use native.Mathlib.Omega.{arith}
-use lib.ListN.{length, set}
-use lib.Dec.{ltb, leb, eqb}
-use borrow.Author.Tests.{lt-ltb, le-ltb, ltb-true, ltb-false, eq-eqb, ne-eqb, eqb-true, eqb-false}
+use lib.ListN.{length}
+use lib.Dec.{ltb, eqb}
+use borrow.Author.Tests.{lt-ltb, le-ltb, ltb-true, ltb-false, eqb-true, eqb-false}
 use Rattle.octets.proofs.Tests.{split, both}
-use Rattle.frame.specs.Limits.{smallestFrame, largestFrame}
 use Rattle.frame.specs.Frame.{lengthCode, constantField, linkNumber}
 use Rattle.frame.proofs.Frame.{by-length}
 use Rattle.account.specs.Terms.{cost}
 use Rattle.account.specs.Account.{termsOf, holding, valid, creditAt}
-use Rattle.account.specs.Step.{Stepped, stepped, policed}
+use Rattle.account.specs.Step.{stepped, policed}
 use Rattle.account.specs.declared.Account.{Account}
 use Rattle.account.specs.declared.Outcome.the-variants as outcome
 use Rattle.account.proofs.Step.{by-step}
@@ -28,9 +27,9 @@ use Rattle.tables.proofs.Claims.{first-found, found-same}
 use Rattle.tables.proofs.Rules.{account-past, sound-port}
 use Rattle.switch.specs.declared.Verdict.{Verdict}
 use Rattle.switch.specs.declared.Verdict.the-variants.{Forwarded, Short, Late, Refused}
-use Rattle.switch.specs.Verdict.{Told, tells, told, withMask}
+use Rattle.switch.specs.Verdict.{Told, tells, told}
 use Rattle.filter.specs.Filter.{frameCode, portCode}
-use Rattle.switch.specs.Call.{State, stateOf, Call, After, accountsInUse, accountHeld, Decided, kept, stepOn, decided, stored, refusedWith, onLink, called}
+use Rattle.switch.specs.Call.{State, Call, After, accountsInUse, accountHeld, Decided, kept, stepOn, decided, stored, refusedWith, onLink, called}
 use Rattle.switch.specs.Claims.{VerdictsApart, CallAnswers, RefusedCallKeeps, LengthAlone, Line, line, firstFit, linkLines, rowLines, codeTable, CodesInOrder}
 use Rattle.switch.specs.Claims.{Effects, RowEffects, CallEffects, PortsBeyond, SameInUse, RowsBeyondUnread}
 use Rattle.filter.proofs.Filter.{frame-length, frame-constant, frame-passes, frame-code-high, frame-zero, port-other, port-small, port-large, port-passes, port-code-high}
@@ -63,12 +62,11 @@ module _ (l : Link) (used : ℕ) (a : Account) (n port t : ℕ) (z : lengthCode 
   unsound e = simp e
 
   refused-port : (linkSound l used (a .smax) && valid a) ≡ true → (portCode l n port ≡ 0 → ⊥) → decided l used a n port t ≡ kept (portCode l n port) a
-  unfolding decided
-  refused-port e h = simp (e, ne-eqb _ _ h)
+  refused-port e h =
+      let b = both (linkSound l used (a .smax)) (valid a) e in decided-refused l used a n port t (b .0) (b .1) h
 
   on-step : (linkSound l used (a .smax) && valid a) ≡ true → portCode l n port ≡ 0 → decided l used a n port t ≡ stepOn l (policed a n t)
-  unfolding decided
-  on-step e h = simp (e, eq-eqb _ _ h)
+  on-step e h = let b = both (linkSound l used (a .smax)) (valid a) e in decided-policed l used a n port t (b .0) (b .1) h
 
   pub by-decided : (P : Decided → Type 0)
       → ((linkSound l used (a .smax) && valid a) ≡ false → P (kept 10 a))

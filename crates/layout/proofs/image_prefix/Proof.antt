@@ -1,8 +1,8 @@
 -- `image_prefix`: the figure is the one that the layout gives. Assumes nothing.
 use mathlib.Core.Path.{refl}
 use Rattle.layout.specs.Layout.{fieldPlace}
-use Rattle.rig.proofs.image_prefix.Statement.{statement}
-use Rattle.rig.proofs.image_prefix.Tie as tie
+use Rattle.layout.proofs.image_prefix.Statement.{statement}
+use Rattle.layout.proofs.image_prefix.Tie as tie
 
 returns : tie.Need-returns
 unfolding fieldPlace
