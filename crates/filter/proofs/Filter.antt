@@ -1,23 +1,23 @@
 -- Laws of the filter, case by case as the code makes its tests. Assumes nothing.
-use Prim.Native.Nat.{ℕ, _+_, _*_, _≤_, _<_}
-use mathlib.Core.Bool.{true}
+use Prim.Native.Nat.{ℕ, _≤_, _<_}
+use mathlib.Core.Bool.{Bool, true, false, not}
 use mathlib.Core.List.{List}
 use mathlib.Core.Path.{_≡_, refl, sym, ap, _∙_}
-use native.Mathlib.Nat.{zero-add}
 use native.Mathlib.Omega.{arith}
 use lib.ListN.{length}
 use lib.Dec.{ltb, eqb}
-use borrow.Author.Tests.{lt-ltb, le-ltb, eq-eqb, ne-eqb, eqb-true, eqb-false}
+use borrow.Author.Tests.{lt-ltb, le-ltb, eq-eqb, ne-eqb, eqb-true, eqb-false, not-true, not-false}
 use Rattle.octets.proofs.Tests.{split}
 use Rattle.frame.specs.Frame.{lengthCode, constantField, linkNumber}
 use Rattle.frame.proofs.Frame.{by-length}
-use Rattle.tables.specs.Rows.{linkOctets, linkAt, linkTable, linksInUse, found}
+use Rattle.tables.specs.Rows.{found, soughtIn}
 use Rattle.tables.specs.declared.Found.{Found}
 use Rattle.tables.specs.declared.Found.the-variants.{At, Nowhere}
 use Rattle.tables.specs.declared.Link.{Link}
-use Rattle.tables.proofs.Claims.{first-found}
-use Rattle.tables.proofs.Rows.{row-inside}
+use Rattle.tables.specs.declared.Sought.{Sought}
+use Rattle.tables.specs.declared.Sought.the-variants.{Present, Absent}
 use Rattle.filter.specs.Filter.{frameCode, portCode, routeTo, routed}
+use Rattle.filter.specs.declared.Route.{Route}
 use Rattle.filter.specs.declared.Route.the-variants.{Stopped, Over}
 
 -- ---- the frame alone, by the code h of its length
@@ -37,6 +37,21 @@ module _ (constant : ℕ) (f : List ℕ) (h : ℕ) (e : h ≡ lengthCode (length
     pub frame-passes : x ≡ constant → 0 ≡ frameCode constant f
     unfolding frameCode
     frame-passes d = simp (good-length, eq-eqb (constantField f) constant (sym q ∙ d))
+
+-- the same by whether the length is a frame's, as the code asks first
+module _ (constant : ℕ) (f : List ℕ) (b : Bool) (e : b ≡ eqb (lengthCode (length f)) 0) where
+  pub code-length : not b ≡ true → (r : ℕ) → r ≡ lengthCode (length f) → r ≡ frameCode constant f
+  code-length h r q = q ∙ frame-length constant f (lengthCode (length f)) refl (eqb-false _ _ (sym e ∙ not-true b h))
+
+  module _ (h : not b ≡ false) (x : ℕ) (q : x ≡ constantField f) where
+    size-good : lengthCode (length f) ≡ 0
+    size-good = eqb-true _ _ (sym e ∙ not-false b h)
+
+    pub code-constant : (x ≡ constant → ⊥) → 3 ≡ frameCode constant f
+    code-constant = frame-constant constant f (lengthCode (length f)) refl size-good x q
+
+    pub code-passes : x ≡ constant → 0 ≡ frameCode constant f
+    code-passes = frame-passes constant f (lengthCode (length f)) refl size-good x q
 
 -- a frame of code 0 has the size of a frame
 pub frame-zero : (constant : ℕ) (f : List ℕ) → frameCode constant f ≡ 0 → lengthCode (length f) ≡ 0
@@ -84,25 +99,32 @@ module _ (l : Link) (n port : ℕ) where
       (λ d. split (ltb (l .largest) n) (λ c. simp (e, d, c) (omega arith)) (λ c. simp (e, d, c) (omega arith))))
       (λ e. simp e (omega arith))
 
--- ---- the route, by the code h of the frame alone
+-- ---- the route, by the link that the number leads to
+abbrev routeBy : Sought → Route
+routeBy (Present l) = Over l
+routeBy Absent = Stopped 4
+
+route-by : (links : List ℕ) (d : Found) → routeBy (soughtIn links d) ≡ routeTo links d
+route-by links (At j) = refl
+route-by links Nowhere = refl
+
+-- ---- and by the code h of the frame alone
 module _ (f : List ℕ) (constant : ℕ) (links : List ℕ) (count h : ℕ) (e : h ≡ frameCode constant f) where
   pub route-stopped : (h ≡ 0 → ⊥) → Stopped h ≡ routed f constant links count
   unfolding routed
   route-stopped z = simp (e, ne-eqb (frameCode constant f) 0 (rw e at z))
 
-  module _ (z : h ≡ 0) (x : ℕ) (p : x ≡ linkNumber f) (d : Found) (q : d ≡ found links count x) where
-    pub route-row : routeTo links d ≡ routed f constant links count
+  module _ (z : h ≡ 0) (x : ℕ) (p : x ≡ linkNumber f) where
+    pub route-row : (d : Found) → d ≡ found links count x → routeTo links d ≡ routed f constant links count
     unfolding routed
-    route-row = simp (q, p, eq-eqb (frameCode constant f) 0 (sym e ∙ z))
+    route-row d q = simp (q, p, eq-eqb (frameCode constant f) 0 (sym e ∙ z))
 
-    pub route-unknown : d ≡ Nowhere → Stopped 4 ≡ routed f constant links count
-    route-unknown r = ap (routeTo links) (sym r) ∙ route-row
+    module _ (w : Sought) (q : w ≡ soughtIn links (found links count x)) where
+      by-sought : routeBy w ≡ routed f constant links count
+      by-sought = ap routeBy q ∙ route-by links (found links count x) ∙ route-row (found links count x) refl
 
-    pub route-over : (j : ℕ) (l : Link) → d ≡ At j → l ≡ linkAt links (linkOctets * j) → Over l ≡ routed f constant links count
-    route-over j l r k =
-        ap Over (k ∙ ap (linkAt links) (sym (zero-add (linkOctets * j)))) ∙ ap (routeTo links) (sym r) ∙ route-row
+      pub route-unknown : w ≡ Absent → Stopped 4 ≡ routed f constant links count
+      route-unknown r = ap routeBy (sym r) ∙ by-sought
 
--- a row that is found lies inside the run
-pub found-inside : (links : List ℕ) (count x j : ℕ) (d : Found) → d ≡ found links count x → d ≡ At j → linkOctets * j + linkOctets ≤ length links
-found-inside links count x j d e r =
-    row-inside links count (linksInUse links count) j refl (first-found (linkTable links) (linksInUse links count) x j (sym e ∙ r) .0)
+      pub route-over : (l : Link) → w ≡ Present l → Over l ≡ routed f constant links count
+      route-over l r = ap routeBy (sym r) ∙ by-sought

@@ -2,8 +2,8 @@
 // functions are total.
 ghost use mathlib.Core.Path.{_≡_};
 ghost use Rattle.filter.specs.Filter.{frameCode, portCode, routed};
-use tables::Found;
 use tables::Link;
+use tables::Sought;
 
 // Codes 3, 4, 5, 6 and 7; 1 and 2 are frame's.
 const OTHER_CONSTANT: u8 = 3;
@@ -26,9 +26,9 @@ pub enum Route {
 pub fn frame_code(frame: &[u8], constant: u32) -> u8
     ensures { λ r. ⌜ r ≡ frameCode constant (now (frame .entry)) ⌝ }
 {
-    let code = frame::length_code(frame.len());
-    if code != 0 {
-        return code;
+    let octets = frame.len();
+    if !frame::is_frame_size(octets) {
+        return frame::length_code(octets);
     }
     if frame::constant_field(frame) != constant {
         return OTHER_CONSTANT;
@@ -45,10 +45,10 @@ pub fn find_link(frame: &[u8], constant: u32, links: &[u8], count: usize) -> Rou
         return Route::Stopped(code);
     }
     let number = frame::link_number(frame);
-    let found = tables::find(links, count, number);
-    match found {
-        Found::Nowhere => Route::Stopped(UNKNOWN_LINK),
-        Found::At(row) => Route::Over(tables::link_at(links, tables::LINK_OCTETS * row)),
+    let sought = tables::look_up(links, count, number);
+    match sought {
+        Sought::Absent => Route::Stopped(UNKNOWN_LINK),
+        Sought::Present(link) => Route::Over(link),
     }
 }
 

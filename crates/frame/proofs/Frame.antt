@@ -1,12 +1,13 @@
 -- Laws of the frame's definitions, case by case. Assumes nothing.
 use Prim.Native.Nat.{ℕ, _+_, _-_, _≤_, _<_}
-use mathlib.Core.Path.{_≡_, sym, _∙_}
+use mathlib.Core.Bool.{false}
+use mathlib.Core.Path.{_≡_, sym, ap, _∙_}
 use mathlib.Core.List.{List, []}
 use native.Mathlib.Nat.{zero-add}
 use native.Mathlib.Omega.{arith}
-use lib.Dec.{ltb, eqb}
+use lib.Dec.{ltb, leb, eqb}
 use lib.ListN.{length, take, drop}
-use borrow.Author.Tests.{ltb-true, ltb-false, lt-ltb, le-ltb, eq-eqb, ne-eqb, eqb-true}
+use borrow.Author.Tests.{ltb-true, ltb-false, leb-true, leb-false, lt-ltb, le-ltb, eq-eqb, ne-eqb, eqb-true}
 use Rattle.octets.proofs.Tests.{split}
 use Rattle.frame.specs.Limits.{smallestFrame, largestFrame}
 use Rattle.frame.specs.declared.Header.{Header}
@@ -45,6 +46,16 @@ module _ (n : ℕ) where
       (λ _ e. absurd (omega arith))
       (λ _ _ e. absurd (omega arith))
       (λ h k _. (h, k))
+
+  -- whether the code is 0, by the tests of the code
+  pub size-short : n < smallestFrame → false ≡ eqb (lengthCode n) 0
+  size-short h = sym (ap (λ (c : ℕ). eqb c 0) (length-short h))
+
+  pub size-rest : smallestFrame ≤ n → leb n largestFrame ≡ eqb (lengthCode n) 0
+  size-rest h =
+      split (leb n largestFrame)
+      (λ e. e ∙ sym (ap (λ (c : ℕ). eqb c 0) (length-good h (leb-true _ _ e))))
+      (λ e. e ∙ sym (ap (λ (c : ℕ). eqb c 0) (length-long h (leb-false _ _ e))))
 
 -- a frame that is read has the smallest size or more
 pub long-enough : (n r : ℕ) → r ≡ lengthCode n → r ≡ 0 → smallestFrame ≤ n

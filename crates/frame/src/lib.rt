@@ -2,6 +2,7 @@
 // The frame check sequence is part of the frame and is not judged.
 ghost use mathlib.Core.Path.{_≡_};
 ghost use denote.Ref.{ptr};
+ghost use lib.Dec.{eqb};
 ghost use Rattle.frame.specs.Frame.{lengthCode, constantField, linkNumber, headerOf, payloadOf, payloadPlace};
 
 // The sizes that a frame can have.
@@ -37,6 +38,16 @@ pub fn length_code(octets: usize) -> u8
         return TOO_LONG;
     }
     0
+}
+
+// Whether a frame can have so many octets: whether that code is 0.
+pub fn is_frame_size(octets: usize) -> bool
+    ensures { λ r. ⌜ r ≡ eqb (lengthCode octets) 0 ⌝ }
+{
+    if octets < SMALLEST_FRAME {
+        return false;
+    }
+    octets <= LARGEST_FRAME
 }
 
 // The constant field of octets of any length; a missing octet counts as 0.

@@ -1,6 +1,8 @@
 // Laying octets into lent runs: numbers of 2, 4 and 8 octets, the high octet first, and a part of one run copied into
 // another. Every function is total: what has no room is not written at all.
 ghost use mathlib.Core.Path.{_≡_};
+ghost use Prim.Native.Nat.{_+_, _≤_};
+ghost use lib.ListN.{length};
 ghost use Rattle.octets.specs.Numbers.{octetsOf};
 ghost use Rattle.octets.specs.Runs.{octetsAt, put};
 
@@ -37,6 +39,31 @@ pub fn put_u64(to: &mut [u8], at: usize, x: u64)
     put_u32(to, at + 4, (x % 4294967296) as u32);
 }
 
+// Octets that are all there copied to a place that has room for them: no test for each octet.
+fn copy_whole(from: &[u8], at: usize, size: usize, to: &mut [u8], place: usize)
+    requires { ⌜ at + size ≤ length (now from) ⌝ ∗ ⌜ place + size ≤ length (now to) ⌝ }
+    ensures { λ r. ⌜ now (to .exit) ≡ put (now (to .entry)) place (octetsAt size (now (from .entry)) at) ⌝ }
+{
+    let mut i = 0;
+    while i < size {
+        to[place + i] = from[at + i];
+        i += 1;
+    }
+}
+
+// Octets of which some are past the end, and so 0, copied to such a place.
+fn copy_padded(from: &[u8], at: usize, size: usize, to: &mut [u8], place: usize)
+    requires { ⌜ place + size ≤ length (now to) ⌝ }
+    ensures { λ r. ⌜ now (to .exit) ≡ put (now (to .entry)) place (octetsAt size (now (from .entry)) at) ⌝ }
+{
+    let start = octets::least(at, from.len());
+    let mut i = 0;
+    while i < size {
+        to[place + i] = octets::octet_at(from, start + i);
+        i += 1;
+    }
+}
+
 // A part of a run copied to a place in another: `size` octets from `at` on.
 pub fn copy(from: &[u8], at: usize, size: usize, to: &mut [u8], place: usize)
     ensures { λ r. ⌜ now (to .exit) ≡ put (now (to .entry)) place (octetsAt size (now (from .entry)) at) ⌝ }
@@ -44,10 +71,9 @@ pub fn copy(from: &[u8], at: usize, size: usize, to: &mut [u8], place: usize)
     if !octets::has_room(to.len(), place, size) {
         return;
     }
-    let start = octets::least(at, from.len());
-    let mut i = 0;
-    while i < size {
-        to[place + i] = octets::octet_at(from, start + i);
-        i += 1;
+    if octets::has_room(from.len(), at, size) {
+        copy_whole(from, at, size, to, place);
+    } else {
+        copy_padded(from, at, size, to, place);
     }
 }

@@ -35,6 +35,12 @@ pub number-halves : (w : ℕ) (s : List ℕ) (at high low : ℕ) → high ≡ nu
     → high * 256 ^ w + low ≡ numberAt (w + w) s at
 number-halves w s at high low e f = rw (e, f) (sym (number-join w w s at))
 
+-- two octets of which at most the first is there
+pub number-first : (s : List ℕ) (at x : ℕ) → length s < at + 2 → x ≡ getD s at 0 → x * 256 ≡ numberAt 2 s at
+number-first s at x h e =
+    sym (add-zero (x * 256))
+    ∙ number-halves 1 s at x 0 (e ∙ sym (number-one s at)) (sym (number-past 1 s (at + 1) (omega arith)))
+
 -- the same octets at two places spell the same number
 pub number-shift : (w : ℕ) (s t : List ℕ) (a b : ℕ) → ((k : ℕ) → k < w → getD s (a + k) 0 ≡ getD t (b + k) 0) → numberAt w s a ≡ numberAt w t b
 unfolding numberAt

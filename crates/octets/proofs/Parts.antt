@@ -11,6 +11,7 @@ use lib.Seq.{length-take-le, getD-at, getD-append-add, getD-take, getD-drop, ext
 use borrow.Author.Tests.{leb-true, leb-false}
 use Rattle.octets.specs.Numbers.{numberAt, octetsOf}
 use Rattle.octets.specs.Runs.{octetsAt, joined}
+use Rattle.octets.proofs.Numbers.{number-shift}
 use Rattle.octets.proofs.Tests.{split}
 
 -- from the end on all octets are 0, wherever one starts
@@ -22,6 +23,15 @@ getD-clamped s at k =
     let h : length s < at = leb-false _ _ e in
     ap (λ (i : ℕ). getD s (i + k) 0) (min-eq-right {n = length s} {m = at} (omega arith))
     ∙ List·getD-eq-default s 0 {n = length s + k} (omega arith) ∙ sym (List·getD-eq-default s 0 {n = at + k} (omega arith)))
+
+-- ---- a part of n octets that is lent, and a number that it begins with
+pub getD-within : (n at : ℕ) (s : List ℕ) (k : ℕ) → k < n → getD (take n (drop at s)) k 0 ≡ getD s (at + k) 0
+getD-within n at s k l = getD-take n (drop at s) k 0 l ∙ getD-drop at s k 0
+
+pub number-within : (w n at : ℕ) (s : List ℕ) → w ≤ n → numberAt w (take n (drop at s)) 0 ≡ numberAt w s at
+number-within w n at s h =
+    number-shift w (take n (drop at s)) s 0 at
+    (λ k l. ap (λ (i : ℕ). getD (take n (drop at s)) i 0) (zero-add k) ∙ getD-within n at s k (omega arith))
 
 -- ---- parts of a run
 pub length-part : (w : ℕ) (s : List ℕ) (at : ℕ) → length (octetsAt w s at) ≡ w

@@ -37,11 +37,17 @@ module _ (len at size : ℕ) where
 
   -- what its answer says
   module _ (r : Bool) (e : r ≡ leb (at + size) len) where
+    pub fits : r ≡ true → at + size ≤ len
+    fits h = leb-true _ _ (sym e ∙ h)
+
+    pub fits-not : r ≡ false → len < at + size
+    fits-not h = leb-false _ _ (sym e ∙ h)
+
     pub has-room : not r ≡ false → at + size ≤ len
-    has-room h = leb-true _ _ (sym e ∙ not-false r h)
+    has-room h = fits (not-false r h)
 
     pub no-room : not r ≡ true → len < at + size
-    no-room h = leb-false _ _ (sym e ∙ not-true r h)
+    no-room h = fits-not (not-true r h)
 
 -- the same at a run's start
 module _ (len size : ℕ) (r : Bool) (e : r ≡ leb (0 + size) len) where

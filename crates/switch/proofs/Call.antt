@@ -1,11 +1,11 @@
 -- Laws of the frame call, case by case as the code goes. Assumes nothing.
-use Prim.Native.Nat.{ℕ, _*_, _/_, _≤_, _<_, min}
+use Prim.Native.Nat.{ℕ, _+_, _-_, _*_, _/_, _≤_, _<_, min}
 use mathlib.Core.Bool.{Bool, true, false, not}
 use mathlib.Core.List.{List}
 use mathlib.Core.Path.{_≡_, refl, sym, ap, _∙_}
-use native.Mathlib.Nat.{zero-add}
+use native.Mathlib.Nat.{zero-add, mul-comm, div-mul-le-self}
 use native.Mathlib.Omega.{arith}
-use lib.ListN.{length, getD, set}
+use lib.ListN.{length, getD, set, take, drop}
 use lib.Seq.{set-getD}
 use borrow.Author.Tests.{eq-eqb, ne-eqb, not-true, not-false}
 use Rattle.frame.specs.Frame.{linkNumber}
@@ -17,6 +17,7 @@ use Rattle.tables.specs.Rows.{Config, accountOctets, termsAt, found}
 use Rattle.tables.specs.Rules.{linkSound}
 use Rattle.tables.specs.declared.Found.{Found}
 use Rattle.tables.specs.declared.Link.{Link}
+use Rattle.tables.proofs.Rows.{terms-within}
 use Rattle.tables.proofs.Rules.{account-past}
 use Rattle.filter.specs.declared.Route.{Route}
 use Rattle.filter.specs.declared.Route.the-variants.{Stopped, Over}
@@ -29,7 +30,7 @@ pub in-use-by : (n a c t q r u : ℕ) → q ≡ min c t → r ≡ min (a / accou
 unfolding inUse
 in-use-by n a c t q r u e f g = simp (g, f, e)
 
--- an account in use is below both runs' lengths
+-- an account in use is below both runs' lengths, and its row is there
 module _ (n a c t u i : ℕ) (e : u ≡ inUse n a c t) (h : i < u) where
   pub used-credit : i < c
   unfolding inUse
@@ -39,12 +40,23 @@ module _ (n a c t u i : ℕ) (e : u ≡ inUse n a c t) (h : i < u) where
   unfolding inUse
   used-last = omega arith
 
--- an account read value by value
-pub held-by : (accounts : List ℕ) (s : State) (i x c t : ℕ) (a : Account) → x ≡ accountOctets * i
-    → c ≡ getD (s .credits) i 0 → t ≡ getD (s .lasts) i 0 → a ≡ accountOf (termsAt accounts x) c t → a ≡ accountHeld accounts s i
+  pub used-row : accountOctets * i + accountOctets ≤ a
+  unfolding inUse
+  used-row =
+      let d : accountOctets * (a / accountOctets) ≤ a = rw (mul-comm accountOctets (a / accountOctets)) (div-mul-le-self a accountOctets) in
+      omega arith
+
+-- an account read from the part that is its row
+pub held-by : (accounts : List ℕ) (s : State) (i c t : ℕ) (a : Account)
+    → c ≡ getD (s .credits) i 0 → t ≡ getD (s .lasts) i 0
+    → a ≡ accountOf (termsAt (take (accountOctets * i + accountOctets - accountOctets * i) (drop (accountOctets * i) accounts)) 0) c t
+    → a ≡ accountHeld accounts s i
 unfolding accountHeld
-held-by accounts s i x c t a e p q f =
-    f ∙ (λ k. accountOf (termsAt accounts ((e ∙ sym (zero-add (accountOctets * i))) k)) (p k) (q k))
+held-by accounts s i c t a p q f =
+    let at : ℕ = accountOctets * i in
+    let row : termsAt (take (at + accountOctets - at) (drop at accounts)) 0 ≡ termsAt accounts (0 + at) =
+    terms-within accounts at (at + accountOctets - at) (omega arith) ∙ ap (termsAt accounts) (sym (zero-add at)) in
+    f ∙ (λ k. accountOf (row k) (p k) (q k))
 
 -- what an account holds, stored again, changes nothing
 pub held-again : (accounts : List ℕ) (s : State) (i : ℕ)

@@ -1,8 +1,9 @@
 // The frame call: the filter by the tables that the caller lends, then the policing step on the link's account.
 ghost use mathlib.Core.Path.{_≡_};
-ghost use lib.ListN.{getD};
+ghost use Prim.Native.Nat.{_+_, _*_, _≤_};
+ghost use lib.ListN.{length, getD};
 ghost use Rattle.account.specs.Step.{told as stepTold};
-ghost use Rattle.tables.specs.Rows.{configOf};
+ghost use Rattle.tables.specs.Rows.{accountOctets, configOf};
 ghost use Rattle.switch.specs.Verdict.{told, withMask};
 ghost use Rattle.switch.specs.Call.{inUse, accountHeld, decisionOf, kept, decided, stateOf, callOf, afterOf, called};
 use account::Account;
@@ -106,13 +107,21 @@ fn last_at(lasts: &[u64], a: usize) -> u64
     if a < lasts.len() { lasts[a] } else { 0 }
 }
 
-// Account a with its credit and last time.
+// Account a, whose row is there, with its credit and last time. The row is handed on as a part of its own length.
 fn account_held(accounts: &[u8], credits: &[u32], lasts: &[u64], a: u16) -> Account
+    requires { ⌜ accountOctets * a + accountOctets ≤ length (now accounts) ⌝ }
     ensures { λ r. ⌜ r ≡ accountHeld (now (accounts .entry)) (stateOf (now (credits .entry)) (now (lasts .entry))) a ⌝ }
 {
     let i = a as usize;
     let row = tables::ACCOUNT_OCTETS * i;
-    tables::account_at(accounts, row, credit_at(credits, i), last_at(lasts, i))
+    let credit = credit_at(credits, i);
+    let last = last_at(lasts, i);
+    tables::account_at(
+        &accounts[row..row + tables::ACCOUNT_OCTETS],
+        0,
+        credit,
+        last,
+    )
 }
 
 // A frame on a port at a time: its verdict, with the credit and the last time of its account stored. Any tables, counts

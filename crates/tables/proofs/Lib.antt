@@ -1,4 +1,5 @@
 pub mod Claims
 pub mod Leading
+pub mod Lookup
 pub mod Rows
 pub mod Rules

@@ -5,12 +5,13 @@ use mathlib.Core.List.{List}
 use mathlib.Core.Path.{_≡_, sym, ap, _∙_}
 use native.Mathlib.Nat.{mul-le-mul, zero-add, add-assoc, min-le-right, div-mul-le-self, mul-comm}
 use native.Mathlib.Omega.{arith}
-use lib.ListN.{length, getD}
+use lib.ListN.{length, getD, take, drop}
 use borrow.Author.Tests.{lt-ltb, le-ltb, eq-eqb, ne-eqb}
 use Rattle.octets.specs.Numbers.{numberAt}
 use Rattle.octets.proofs.Numbers.{number-shift}
-use Rattle.octets.specs.Runs.{octetsAt}
-use Rattle.octets.proofs.Parts.{getD-clamped, part-octet}
+use Rattle.octets.specs.Runs.{octetsAt, put}
+use Rattle.octets.proofs.Parts.{getD-clamped, getD-within, length-part, getD-part, part-octet}
+use Rattle.octets.proofs.Runs.{getD-put}
 use Rattle.account.specs.Terms.{Terms}
 use Rattle.tables.specs.Leading.{leading}
 use Rattle.tables.specs.Rows.{accountOctets, linkOctets, termsAt, linkAt, linkTable, linksInUse, otherNumber, foundIn, found}
@@ -37,26 +38,36 @@ module _ (s t : List ℕ) (a b : ℕ) where
   link-same h =
       rw (start 13 h 2 (omega arith), h 2 (omega arith), inside 13 h 4 3 (omega arith), inside 13 h 2 7 (omega arith), inside 13 h 2 9 (omega arith), inside 13 h 2 11 (omega arith))
 
--- ---- from the end on all octets are 0
-pub terms-clamped : (s : List ℕ) (at : ℕ) → termsAt s (min at (length s)) ≡ termsAt s at
-terms-clamped s at = terms-same s s (min at (length s)) at (λ k l. getD-clamped s at k)
-
-pub link-clamped : (s : List ℕ) (at : ℕ) → linkAt s (min at (length s)) ≡ linkAt s at
-link-clamped s at = link-same s s (min at (length s)) at (λ k l. getD-clamped s at k)
-
 -- ---- a row read value by value
-pub terms-read : (s : List ℕ) (at start a k j m : ℕ) → start ≡ min at (length s)
-    → a ≡ numberAt 2 s start → k ≡ getD s (start + 2) 0 → j ≡ numberAt 2 s (start + 3) → m ≡ getD s (start + 5) 0
+pub terms-read : (s : List ℕ) (at a k j m : ℕ) → a ≡ numberAt 2 s at → k ≡ getD s (at + 2) 0 → j ≡ numberAt 2 s (at + 3) → m ≡ getD s (at + 5) 0
     → _≡_ {A = Terms} (record { smax = a; k = k; jitter = j; mode = m }) (termsAt s at)
 unfolding termsAt
-terms-read s at start a k j m e p q u v = rw (p, q, u, v, e) (terms-clamped s at)
+terms-read s at a k j m p q u v = rw (p, q, u, v)
 
-pub link-read : (s : List ℕ) (at start n p w i z a : ℕ) → start ≡ min at (length s)
-    → n ≡ numberAt 2 s start → p ≡ getD s (start + 2) 0 → w ≡ numberAt 4 s (start + 3)
-    → i ≡ numberAt 2 s (start + 7) → z ≡ numberAt 2 s (start + 9) → a ≡ numberAt 2 s (start + 11)
+pub link-read : (s : List ℕ) (at n p w i z a : ℕ) → n ≡ numberAt 2 s at → p ≡ getD s (at + 2) 0 → w ≡ numberAt 4 s (at + 3)
+    → i ≡ numberAt 2 s (at + 7) → z ≡ numberAt 2 s (at + 9) → a ≡ numberAt 2 s (at + 11)
     → _≡_ {A = Link} (record { number = n; port = p; mask = w; smallest = i; largest = z; account = a }) (linkAt s at)
 unfolding linkAt
-link-read s at start n p w i z a e h1 h2 h3 h4 h5 h6 = rw (h1, h2, h3, h4, h5, h6, e) (link-clamped s at)
+link-read s at n p w i z a h1 h2 h3 h4 h5 h6 = rw (h1, h2, h3, h4, h5, h6)
+
+-- ---- an account's row lent as a part of n octets
+pub terms-within : (s : List ℕ) (at n : ℕ) → accountOctets ≤ n → termsAt (take n (drop at s)) 0 ≡ termsAt s at
+terms-within s at n h =
+    terms-same (take n (drop at s)) s 0 at
+    (λ k l. ap (λ (i : ℕ). getD (take n (drop at s)) i 0) (zero-add k) ∙ getD-within n at s k (omega arith))
+
+-- ---- a row whose octets e were laid at the start of d
+module _ (s : List ℕ) (at : ℕ) (d e : List ℕ) where
+  laid : (w : ℕ) → w ≤ length d → e ≡ put d 0 (octetsAt w s at) → (k : ℕ) → k < w → getD e (0 + k) 0 ≡ getD s (at + k) 0
+  laid w h q k l =
+      let n = length-part w s at in
+      ap (λ (r : List ℕ). getD r (0 + k) 0) q ∙ getD-put d 0 (octetsAt w s at) (omega arith) k (omega arith) ∙ getD-part w s at k l
+
+  pub terms-laid : accountOctets ≤ length d → e ≡ put d 0 (octetsAt accountOctets s at) → termsAt e 0 ≡ termsAt s at
+  terms-laid h q = terms-same e s 0 at (laid accountOctets h q)
+
+  pub link-laid : linkOctets ≤ length d → e ≡ put d 0 (octetsAt linkOctets s at) → linkAt e 0 ≡ linkAt s at
+  link-laid h q = link-same e s 0 at (laid linkOctets h q)
 
 -- ---- the search: row i, of `rows` in use, is inside the run
 pub row-inside : (links : List ℕ) (count rows i : ℕ) → rows ≡ linksInUse links count → i < rows → linkOctets * i + linkOctets ≤ length links

@@ -13,6 +13,8 @@ use Rattle.tables.specs.Leading.{leading}
 use Rattle.tables.specs.declared.Found.{Found}
 use Rattle.tables.specs.declared.Found.the-variants.{At, Nowhere}
 use Rattle.tables.specs.declared.Link.{Link}
+use Rattle.tables.specs.declared.Sought.{Sought}
+use Rattle.tables.specs.declared.Sought.the-variants.{Present, Absent}
 use Rattle.tables.specs.declared.Spacing.{Spacing}
 
 -- the account whose octets start at a place: Smax (2), k (1), J (2), mode (1)
@@ -88,6 +90,11 @@ foundIn l n x = if ltb (rowOf l n x) n then At (rowOf l n x) else Nowhere
 
 abbrev pub found : List ℕ → ℕ → ℕ → Found
 found links count x = foundIn (linkTable links) (linksInUse links count) x
+
+-- the link of such a row, if there is one
+abbrev pub soughtIn : List ℕ → Found → Sought
+soughtIn links (At j) = Present (linkIn (linkTable links) j)
+soughtIn links Nowhere = Absent
 
 -- the constant field, the tables and the counts that go with them: what an image is written from, and what a frame call is lent
 pub record Config : Type 0 where

@@ -1,10 +1,11 @@
 // The tables that a switch is lent: rows of 6 octets an account and 13 a link, in the order of the image's data.
 // Decoding a row, the value rules of rows, and the search for a link's number.
 ghost use mathlib.Core.Path.{_≡_};
-ghost use Prim.Native.Nat.{_+_, _*_, min};
-ghost use lib.ListN.{length};
+ghost use Prim.Native.Nat.{_+_, _*_, _≤_, _<_, min};
+ghost use lib.ListN.{length, getD};
+ghost use Rattle.octets.specs.Numbers.{numberAt};
 ghost use Rattle.account.specs.Account.{accountOf};
-ghost use Rattle.tables.specs.Rows.{termsAt, linkAt, rowsBy, accountIn, found};
+ghost use Rattle.tables.specs.Rows.{accountOctets, termsAt, linkOctets, linkAt, rowsBy, accountIn, found, soughtIn};
 ghost use Rattle.tables.specs.Rules.{portsSound, sizesSound, linkSound, accountGood, numberRises, linkGood};
 use account::Account;
 
@@ -38,18 +39,73 @@ pub enum Found {
     Nowhere,
 }
 
+// The link of a number, if there is one.
+pub enum Sought {
+    Present(Link),
+    Absent,
+}
+
+// One, two and four octets from a place on that are there, with no test for each: a part of known length is read.
+fn octet_in(rows: &[u8], at: usize) -> u8
+    requires { ⌜ at < length (now rows) ⌝ }
+    ensures { λ r. ⌜ r ≡ getD (now (rows .entry)) at 0 ⌝ }
+{
+    rows[at]
+}
+
+fn u16_in(rows: &[u8], at: usize) -> u16
+    requires { ⌜ at + 2 ≤ length (now rows) ⌝ }
+    ensures { λ r. ⌜ r ≡ numberAt 2 (now (rows .entry)) at ⌝ }
+{
+    octets::u16_at(&rows[at..at + 2], 0)
+}
+
+fn u32_in(rows: &[u8], at: usize) -> u32
+    requires { ⌜ at + 4 ≤ length (now rows) ⌝ }
+    ensures { λ r. ⌜ r ≡ numberAt 4 (now (rows .entry)) at ⌝ }
+{
+    octets::u32_at(&rows[at..at + 4], 0)
+}
+
+// The account of a row that is there, with a credit and a last time.
+fn account_in(rows: &[u8], at: usize, credit: u32, last: u64) -> Account
+    requires { ⌜ at + accountOctets ≤ length (now rows) ⌝ }
+    ensures { λ r. ⌜ r ≡ accountOf (termsAt (now (rows .entry)) at) credit last ⌝ }
+{
+    Account {
+        smax: u16_in(rows, at),
+        k: octet_in(rows, at + 2),
+        jitter: u16_in(rows, at + 3),
+        mode: octet_in(rows, at + 5),
+        credit,
+        last,
+    }
+}
+
 // The account whose octets start at a place, with a credit and a last time; octets past the end are 0.
 pub fn account_at(rows: &[u8], at: usize, credit: u32, last: u64) -> Account
     ensures { λ r. ⌜ r ≡ accountOf (termsAt (now (rows .entry)) at) credit last ⌝ }
 {
-    let start = octets::least(at, rows.len());
-    Account {
-        smax: octets::u16_at(rows, start),
-        k: octets::octet_at(rows, start + 2),
-        jitter: octets::u16_at(rows, start + 3),
-        mode: octets::octet_at(rows, start + 5),
-        credit,
-        last,
+    if octets::has_room(rows.len(), at, ACCOUNT_OCTETS) {
+        return account_in(rows, at, credit, last);
+    }
+    let mut row = [0u8; ACCOUNT_OCTETS];
+    laying::copy(rows, at, ACCOUNT_OCTETS, &mut row, 0);
+    account_in(&row, 0, credit, last)
+}
+
+// The link of a row that is there.
+fn link_in(rows: &[u8], at: usize) -> Link
+    requires { ⌜ at + linkOctets ≤ length (now rows) ⌝ }
+    ensures { λ r. ⌜ r ≡ linkAt (now (rows .entry)) at ⌝ }
+{
+    Link {
+        number: u16_in(rows, at),
+        port: octet_in(rows, at + 2),
+        mask: u32_in(rows, at + 3),
+        smallest: u16_in(rows, at + 7),
+        largest: u16_in(rows, at + 9),
+        account: u16_in(rows, at + 11),
     }
 }
 
@@ -57,15 +113,12 @@ pub fn account_at(rows: &[u8], at: usize, credit: u32, last: u64) -> Account
 pub fn link_at(rows: &[u8], at: usize) -> Link
     ensures { λ r. ⌜ r ≡ linkAt (now (rows .entry)) at ⌝ }
 {
-    let start = octets::least(at, rows.len());
-    Link {
-        number: octets::u16_at(rows, start),
-        port: octets::octet_at(rows, start + 2),
-        mask: octets::u32_at(rows, start + 3),
-        smallest: octets::u16_at(rows, start + 7),
-        largest: octets::u16_at(rows, start + 9),
-        account: octets::u16_at(rows, start + 11),
+    if octets::has_room(rows.len(), at, LINK_OCTETS) {
+        return link_in(rows, at);
     }
+    let mut row = [0u8; LINK_OCTETS];
+    laying::copy(rows, at, LINK_OCTETS, &mut row, 0);
+    link_in(&row, 0)
 }
 
 // The place of row i; a first place past the end is cut to the end, where all octets are 0 too.
@@ -161,17 +214,37 @@ pub fn link_good(
     l.sound(n as usize, smax)
 }
 
-// The first of the rows in use that has the number. A count larger than the rows lent is read as those.
+// The first of the rows in use that has the number, two rows a turn. A count larger than the rows lent is read as those.
 pub fn find(links: &[u8], count: usize, number: u16) -> Found
     ensures { λ r. ⌜ r ≡ found (now (links .entry)) count number ⌝ }
 {
     let rows = octets::least(count, links.len() / LINK_OCTETS);
     let mut i = 0;
-    while i < rows {
-        if octets::u16_at(links, LINK_OCTETS * i) == number {
+    while 1 < rows - i {
+        if u16_in(links, LINK_OCTETS * i) == number {
             return Found::At(i);
         }
-        i += 1;
+        let next = i + 1;
+        if u16_in(links, LINK_OCTETS * next) == number {
+            return Found::At(next);
+        }
+        i += 2;
+    }
+    if i < rows {
+        if u16_in(links, LINK_OCTETS * i) == number {
+            return Found::At(i);
+        }
     }
     Found::Nowhere
+}
+
+// The link in the first of the rows in use that has the number. A row that is found is there whole.
+pub fn look_up(links: &[u8], count: usize, number: u16) -> Sought
+    ensures { λ r. ⌜ r ≡ soughtIn (now (links .entry)) (found (now (links .entry)) count number) ⌝ }
+{
+    let found = find(links, count, number);
+    match found {
+        Found::Nowhere => Sought::Absent,
+        Found::At(row) => Sought::Present(link_in(links, LINK_OCTETS * row)),
+    }
 }

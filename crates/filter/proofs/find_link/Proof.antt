@@ -1,6 +1,5 @@
--- `find_link`: the frame alone, then the search for its number. Assumes nothing.
-use native.Mathlib.Omega.{arith}
-use Rattle.filter.proofs.Filter.{route-stopped, route-unknown, route-over, found-inside}
+-- `find_link`: the frame alone, then the link of its number. Assumes nothing.
+use Rattle.filter.proofs.Filter.{route-stopped, route-unknown, route-over}
 use borrow.Author.Needs.{needs}
 use Rattle.filter.proofs.find_link.Statement.{statement}
 use Rattle.filter.proofs.find_link.Tie as tie
@@ -14,20 +13,14 @@ returns c = search route-stopped
 link-number-requires : tie.Need-link-number-requires
 link-number-requires c κs = search needs
 
-find-requires : tie.Need-find-requires
-find-requires c κs = search needs
+look-up-requires : tie.Need-look-up-requires
+look-up-requires c κs = search needs
 
 enum-told : tie.Need-enum-told
 enum-told c = search needs
 
-enum-known-found : tie.Need-enum-known-found
-enum-known-found c = search needs
-
-mul-link-at : tie.Need-mul-link-at
-mul-link-at c = omega (arith, found-inside _ _ _ _ _ (c .before .before .before .find .ensures) (c .before .found .given .1))
-
-link-at-requires : tie.Need-link-at-requires
-link-at-requires c κs = search needs
+enum-known-sought : tie.Need-enum-known-sought
+enum-known-sought c = search needs
 
 returns-2 : tie.Need-returns-2
 returns-2 c = search route-unknown
@@ -42,10 +35,8 @@ find-link-spec =
     frame-code-requires
     returns
     link-number-requires
-    find-requires
+    look-up-requires
     enum-told
-    enum-known-found
-    mul-link-at
-    link-at-requires
+    enum-known-sought
     returns-2
     returns-3)

@@ -1,12 +1,22 @@
--- `u32_at`: the number of 4 octets is that of its two halves. Assumes nothing.
+-- `u32_at`: 4 octets that are there, none, or two halves. Assumes nothing.
 use mathlib.Core.Path.{sym}
-use borrow.Author.Needs.{needs}
 use Rattle.octets.proofs.Numbers.{number-past, number-halves}
+use Rattle.octets.proofs.Tests.{fits}
+use borrow.Author.Needs.{needs}
 use Rattle.octets.proofs.u32_at.Statement.{statement}
 use Rattle.octets.proofs.u32_at.Tie as tie
 
+has-room-requires : tie.Need-has-room-requires
+has-room-requires c κs = search needs
+
+whole-u32-requires : tie.Need-whole-u32-requires
+whole-u32-requires c κs = fits _ _ _ _ (c .before .has-room .ensures) (c .if1 .taken)
+
 returns : tie.Need-returns
-returns c = sym (number-past 4 _ _ (c .if1 .taken))
+returns c = search needs
+
+returns-2 : tie.Need-returns-2
+returns-2 c = sym (number-past 4 _ _ (c .if2 .taken))
 
 u16-at-requires : tie.Need-u16-at-requires
 u16-at-requires c κs = search needs
@@ -29,14 +39,17 @@ cast-result-2 c = search needs
 add-result : tie.Need-add-result
 add-result c = search needs
 
-returns-2 : tie.Need-returns-2
-returns-2 c = number-halves 2 _ _ _ _ (c .before .u16-at .ensures) (c .u16-at2 .ensures)
+returns-3 : tie.Need-returns-3
+returns-3 c = number-halves 2 _ _ _ _ (c .before .u16-at .ensures) (c .u16-at2 .ensures)
 
 pub u32-at-spec : {M : Type 1} → statement M
 u32-at-spec =
     tie.close
     (tie.spec
+    has-room-requires
+    whole-u32-requires
     returns
+    returns-2
     u16-at-requires
     cast-result
     mul-result
@@ -44,4 +57,4 @@ u32-at-spec =
     u16-at-requires-2
     cast-result-2
     add-result
-    returns-2)
+    returns-3)

@@ -1,12 +1,22 @@
--- `u64_at`: the number of 8 octets is that of its two halves. Assumes nothing.
+-- `u64_at`: 8 octets that are there, none, or two halves. Assumes nothing.
 use mathlib.Core.Path.{sym}
-use borrow.Author.Needs.{needs}
 use Rattle.octets.proofs.Numbers.{number-past, number-halves}
+use Rattle.octets.proofs.Tests.{fits}
+use borrow.Author.Needs.{needs}
 use Rattle.octets.proofs.u64_at.Statement.{statement}
 use Rattle.octets.proofs.u64_at.Tie as tie
 
+has-room-requires : tie.Need-has-room-requires
+has-room-requires c κs = search needs
+
+whole-u64-requires : tie.Need-whole-u64-requires
+whole-u64-requires c κs = fits _ _ _ _ (c .before .has-room .ensures) (c .if1 .taken)
+
 returns : tie.Need-returns
-returns c = sym (number-past 8 _ _ (c .if1 .taken))
+returns c = search needs
+
+returns-2 : tie.Need-returns-2
+returns-2 c = sym (number-past 8 _ _ (c .if2 .taken))
 
 u32-at-requires : tie.Need-u32-at-requires
 u32-at-requires c κs = search needs
@@ -29,14 +39,17 @@ cast-result-2 c = search needs
 add-result : tie.Need-add-result
 add-result c = search needs
 
-returns-2 : tie.Need-returns-2
-returns-2 c = number-halves 4 _ _ _ _ (c .before .u32-at .ensures) (c .u32-at2 .ensures)
+returns-3 : tie.Need-returns-3
+returns-3 c = number-halves 4 _ _ _ _ (c .before .u32-at .ensures) (c .u32-at2 .ensures)
 
 pub u64-at-spec : {M : Type 1} → statement M
 u64-at-spec =
     tie.close
     (tie.spec
+    has-room-requires
+    whole-u64-requires
     returns
+    returns-2
     u32-at-requires
     cast-result
     mul-result
@@ -44,4 +57,4 @@ u64-at-spec =
     u32-at-requires-2
     cast-result-2
     add-result
-    returns-2)
+    returns-3)

@@ -13,6 +13,18 @@ credit-at-requires c κs = search needs
 last-at-requires : tie.Need-last-at-requires
 last-at-requires c κs = search needs
 
+add-account-at : tie.Need-add-account-at
+add-account-at c = search needs
+
+sub-account-at : tie.Need-sub-account-at
+sub-account-at c = search needs
+
+part-account-at-start : tie.Need-part-account-at-start
+part-account-at-start c = search needs
+
+part-account-at-end : tie.Need-part-account-at-end
+part-account-at-end c = search needs
+
 account-at-requires : tie.Need-account-at-requires
 account-at-requires c κs = search needs
 
@@ -21,4 +33,14 @@ returns c = search held-by
 
 pub account-held-spec : {M : Type 1} → statement M
 account-held-spec =
-    tie.close (tie.spec mul-row credit-at-requires last-at-requires account-at-requires returns)
+    tie.close
+    (tie.spec
+    mul-row
+    credit-at-requires
+    last-at-requires
+    add-account-at
+    sub-account-at
+    part-account-at-start
+    part-account-at-end
+    account-at-requires
+    returns)

@@ -1,5 +1,5 @@
 -- `frame_call`: by its route; the account is in use where its credit and last time are stored. Assumes nothing.
-use Rattle.switch.proofs.Call.{used-credit, used-last, call-stopped, call-unused, call-stored}
+use Rattle.switch.proofs.Call.{used-credit, used-last, used-row, call-stopped, call-unused, call-stored}
 use borrow.Author.Needs.{needs}
 use Rattle.switch.proofs.frame_call.Statement.{statement}
 use Rattle.switch.proofs.frame_call.Tie as tie
@@ -23,7 +23,7 @@ returns : tie.Need-returns
 returns c = search call-unused
 
 account-held-requires : tie.Need-account-held-requires
-account-held-requires c κs = search needs
+account-held-requires c κs = search used-row
 
 decide-requires : tie.Need-decide-requires
 decide-requires c κs = search needs

@@ -1,64 +1,47 @@
--- `link_at`: each value at its place; a place past the end reads as the end does. Assumes nothing.
-use Rattle.tables.proofs.Rows.{link-read}
+-- `link_at`: the row itself, or its octets with zeros behind them. Assumes nothing.
+use mathlib.Core.Path.{_∙_}
+use native.Mathlib.Omega.{arith}
+use Rattle.octets.proofs.Tests.{fits}
+use Rattle.tables.proofs.Rows.{link-laid}
 use borrow.Author.Needs.{needs}
 use Rattle.tables.proofs.link_at.Statement.{statement}
 use Rattle.tables.proofs.link_at.Tie as tie
 
-least-requires : tie.Need-least-requires
-least-requires c κs = search needs
+has-room-requires : tie.Need-has-room-requires
+has-room-requires c κs = search needs
 
-u16-at-requires : tie.Need-u16-at-requires
-u16-at-requires c κs = search needs
-
-add-octet-at : tie.Need-add-octet-at
-add-octet-at c = search needs
-
-octet-at-requires : tie.Need-octet-at-requires
-octet-at-requires c κs = search needs
-
-add-u32-at : tie.Need-add-u32-at
-add-u32-at c = search needs
-
-u32-at-requires : tie.Need-u32-at-requires
-u32-at-requires c κs = search needs
-
-add-u16-at : tie.Need-add-u16-at
-add-u16-at c = search needs
-
-u16-at-requires-2 : tie.Need-u16-at-requires-2
-u16-at-requires-2 c κs = search needs
-
-add-u16-at-2 : tie.Need-add-u16-at-2
-add-u16-at-2 c = search needs
-
-u16-at-requires-3 : tie.Need-u16-at-requires-3
-u16-at-requires-3 c κs = search needs
-
-add-u16-at-3 : tie.Need-add-u16-at-3
-add-u16-at-3 c = search needs
-
-u16-at-requires-4 : tie.Need-u16-at-requires-4
-u16-at-requires-4 c κs = search needs
+link-in-requires : tie.Need-link-in-requires
+link-in-requires c κs = fits _ _ _ _ (c .before .has-room .ensures) (c .if1 .taken)
 
 returns : tie.Need-returns
-returns c =
-    link-read _ _ _ _ _ _ _ _ _ (c .before .before .before .before .before .before .least .ensures) (c .before .before .before .before .before .u16-at .ensures) (c .before .before .before .before .octet-at .ensures) (c .before .before .before .u32-at .ensures)
-    (c .before .before .u16-at2 .ensures) (c .before .u16-at3 .ensures) (c .u16-at4 .ensures)
+returns c = search needs
+
+slice-aggregate-copy : tie.Need-slice-aggregate-copy
+slice-aggregate-copy c = search needs
+
+copy-requires : tie.Need-copy-requires
+copy-requires c κs = search needs
+
+slice-aggregate-link-in : tie.Need-slice-aggregate-link-in
+slice-aggregate-link-in c = search needs
+
+link-in-requires-2 : tie.Need-link-in-requires-2
+link-in-requires-2 c κs = search needs
+
+returns-2 : tie.Need-returns-2
+returns-2 c =
+    let a = c .before .before .before .before .before .before .before .before .args in
+    c .link-in2 .ensures ∙ link-laid (a .rows .now) (a .at) _ _ (omega arith) (c .before .before .before .copy .ensures)
 
 pub link-at-spec : {M : Type 1} → statement M
 link-at-spec =
     tie.close
     (tie.spec
-    least-requires
-    u16-at-requires
-    add-octet-at
-    octet-at-requires
-    add-u32-at
-    u32-at-requires
-    add-u16-at
-    u16-at-requires-2
-    add-u16-at-2
-    u16-at-requires-3
-    add-u16-at-3
-    u16-at-requires-4
-    returns)
+    has-room-requires
+    link-in-requires
+    returns
+    slice-aggregate-copy
+    copy-requires
+    slice-aggregate-link-in
+    link-in-requires-2
+    returns-2)

@@ -1,0 +1,40 @@
+-- Answers in numbers, from those of the libraries. Assumes nothing.
+use Prim.Native.Nat.{ℕ}
+use mathlib.Core.Bool.{_&&_}
+use mathlib.Core.Path.{_≡_, ap, _∙_}
+use lib.Dec.{leb}
+use Rattle.octets.proofs.Tests.{split}
+use Rattle.account.specs.Account.{holding, valid, toppedUp}
+use Rattle.account.specs.Step.{Stepped, policed}
+use Rattle.account.specs.declared.Account.{Account}
+use Rattle.account.proofs.Step.{policed-keeps}
+use Rattle.image.specs.declared.Loaded.{Loaded}
+use Rattle.loader.specs.Loading.{Runs, Loading, loadingOf}
+use Rattle.switch.specs.Verdict.{Told}
+use Rattle.switch.specs.Call.{State, After, afterOf}
+use Rattle.exports.specs.Numbers.{stepSays, stepDone, stepDoneOf, callSays, callDone, callDoneOf}
+use Rattle.exports.specs.declared.accounts.StepNumbers.{StepNumbers}
+use Rattle.exports.specs.declared.calls.CallNumbers.{CallNumbers}
+
+-- a top-up changes the credit and the last time alone
+pub topped-keeps : (a : Account) (t : ℕ) → holding a (toppedUp a t .credit) (toppedUp a t .last) ≡ toppedUp a t
+unfolding toppedUp
+topped-keeps a t = split (valid a && leb (a .last) t) (λ e. simp e) (λ e. simp e)
+
+-- an account e, read as d: brought to a time, and policed
+module _ (d e : Account) (p : d ≡ e) where
+  pub top-up-done : (t : ℕ) (b : Account) → b ≡ toppedUp d t → holding e (b .credit) (b .last) ≡ toppedUp e t
+  top-up-done t b q = ap (λ (x : Account). holding e (x .credit) (x .last)) (q ∙ ap (λ (x : Account). toppedUp x t) p) ∙ topped-keeps e t
+
+  pub police-done : (n t : ℕ) (q : Stepped) (w : StepNumbers) → q ≡ policed d n t → w ≡ stepSays (q .says)
+      → stepDone w (holding e (q .account .credit) (q .account .last)) ≡ stepDoneOf (policed e n t)
+  police-done n t q w r s =
+      ap (λ (x : StepNumbers). stepDone x (holding e (q .account .credit) (q .account .last))) s
+      ∙ ap (λ (x : Stepped). stepDone (stepSays (x .says)) (holding e (x .account .credit) (x .account .last))) (r ∙ ap (λ (x : Account). policed x n t) p)
+      ∙ ap (stepDone (stepSays (policed e n t .says))) (policed-keeps e n t)
+
+pub call-done : (n : CallNumbers) (w : Told) (s : State) (r : After) → n ≡ callSays w → afterOf w s ≡ r → callDone n s ≡ callDoneOf r
+call-done n w s r p q = ap (λ m. callDone m s) p ∙ ap callDoneOf q
+
+pub load-done : (q a : Loaded) (r : Runs) (l : Loading) → q ≡ a → loadingOf a r ≡ l → loadingOf q r ≡ l
+load-done q a r l e f = ap (λ (x : Loaded). loadingOf x r) e ∙ f

@@ -1,0 +1,83 @@
+// Reading, loading and writing a configuration image.
+ghost use mathlib.Core.Path.{_≡_};
+ghost use Rattle.tables.specs.Rows.{configOf};
+ghost use Rattle.image.specs.Read.{readImage};
+ghost use Rattle.loader.specs.Loading.{runsOf, loadingOf, loading};
+ghost use Rattle.image_writer.specs.Writing.{writtenOf, writingOf, writing};
+ghost use Rattle.exports.specs.Numbers.{loadedWith};
+use image::Loaded;
+
+// An answer told in numbers.
+fn tell(
+    answer: Loaded,
+    offset: &mut usize,
+    constant: &mut u32,
+    account_count: &mut usize,
+    link_count: &mut usize,
+) -> u8
+    ensures { λ r. ⌜ loadedWith r (now (offset .exit)) (now (constant .exit)) (now («account_count» .exit)) (now («link_count» .exit)) ≡ answer ⌝ }
+{
+    *offset = answer.offset;
+    *constant = answer.constant;
+    *account_count = answer.accounts;
+    *link_count = answer.links;
+    answer.code
+}
+
+// What reading an image answers, with no tables lent.
+#[no_mangle]
+pub extern "C" fn ashthulgo_check(
+    image: &[u8],
+    offset: &mut usize,
+    constant: &mut u32,
+    account_count: &mut usize,
+    link_count: &mut usize,
+) -> u8
+    ensures { λ r. ⌜ loadedWith r (now (offset .exit)) (now (constant .exit)) (now («account_count» .exit)) (now («link_count» .exit))
+        ≡ readImage (now (image .entry)) ⌝ }
+{
+    let answer = image::check(image);
+    tell(answer, offset, constant, account_count, link_count)
+}
+
+// Loads an image into lent tables.
+#[no_mangle]
+pub extern "C" fn ashthulgo_load(
+    image: &[u8],
+    accounts: &mut [u8],
+    credits: &mut [u32],
+    lasts: &mut [u64],
+    links: &mut [u8],
+    offset: &mut usize,
+    constant: &mut u32,
+    account_count: &mut usize,
+    link_count: &mut usize,
+) -> u8
+    ensures { λ r. ⌜ loadingOf
+        (loadedWith r (now (offset .exit)) (now (constant .exit)) (now («account_count» .exit)) (now («link_count» .exit)))
+        (runsOf (now (accounts .exit)) (now (credits .exit)) (now (lasts .exit)) (now (links .exit)))
+        ≡ loading (now (image .entry))
+        (runsOf (now (accounts .entry)) (now (credits .entry)) (now (lasts .entry)) (now (links .entry))) ⌝ }
+{
+    let answer = loader::load(image, accounts, credits, lasts, links);
+    tell(answer, offset, constant, account_count, link_count)
+}
+
+// Writes the image of the first rows of two tables.
+#[no_mangle]
+pub extern "C" fn ashthulgo_write(
+    constant: u32,
+    accounts: &[u8],
+    account_count: usize,
+    links: &[u8],
+    link_count: usize,
+    room: &mut [u8],
+    offset: &mut usize,
+) -> u8
+    ensures { λ r. ⌜ writingOf (writtenOf r (now (offset .exit))) (now (room .exit))
+        ≡ writing (configOf constant (now (accounts .entry)) «account_count» (now (links .entry)) «link_count») (now (room .entry)) ⌝ }
+{
+    let written = image_writer::write(constant, accounts, account_count, links, link_count, room);
+    *offset = written.offset;
+    written.code
+}

@@ -1,0 +1,42 @@
+-- `whole_u64`: the number of 8 octets is that of its two halves. Assumes nothing.
+use Rattle.octets.proofs.Numbers.{number-halves}
+use borrow.Author.Needs.{needs}
+use Rattle.octets.proofs.whole_u64.Statement.{statement}
+use Rattle.octets.proofs.whole_u64.Tie as tie
+
+whole-u32-requires : tie.Need-whole-u32-requires
+whole-u32-requires c κs = search needs
+
+cast-result : tie.Need-cast-result
+cast-result c = search needs
+
+mul-result : tie.Need-mul-result
+mul-result c = search needs
+
+add-whole-u32 : tie.Need-add-whole-u32
+add-whole-u32 c = search needs
+
+whole-u32-requires-2 : tie.Need-whole-u32-requires-2
+whole-u32-requires-2 c κs = search needs
+
+cast-result-2 : tie.Need-cast-result-2
+cast-result-2 c = search needs
+
+add-result : tie.Need-add-result
+add-result c = search needs
+
+returns : tie.Need-returns
+returns c = number-halves 4 _ _ _ _ (c .before .whole-u32 .ensures) (c .whole-u322 .ensures)
+
+pub whole-u64-spec : {M : Type 1} → statement M
+whole-u64-spec =
+    tie.close
+    (tie.spec
+    whole-u32-requires
+    cast-result
+    mul-result
+    add-whole-u32
+    whole-u32-requires-2
+    cast-result-2
+    add-result
+    returns)

@@ -1,0 +1,22 @@
+//! A plain Rust version of document 01: configuration images, the frame
+//! filter, the policer and the replay of recorded rigs.
+//!
+//! Every function here is total: it answers for any octets, tables, counts,
+//! ports and times, and never panics.
+#![forbid(unsafe_code)]
+#![warn(missing_docs)]
+
+mod account;
+mod filter;
+mod frame;
+mod image;
+mod replay;
+mod rules;
+mod tables;
+
+pub use account::{Account, Outcome};
+pub use filter::{frame_call, Verdict};
+pub use frame::{header, payload, Header};
+pub use image::{check, load, write, Loaded, Written};
+pub use replay::replay;
+pub use tables::Config;

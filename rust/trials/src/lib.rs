@@ -1,0 +1,7 @@
+//! Made-up rigs: configurations, frames and logs, from a seed. The differential tests and the benchmark share them.
+
+pub mod damage;
+pub mod plan;
+pub mod random;
+pub mod sound;
+pub mod traffic;

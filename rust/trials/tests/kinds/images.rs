@@ -1,0 +1,90 @@
+//! Reading and loading images, and writing the accepted ones again.
+
+use ffi::ImageAnswer;
+use trials::plan::Plan;
+use trials::random::Random;
+use trials::{damage, sound};
+
+use super::lent::{Lent, ReadOnly};
+use super::rigs::Rig;
+use super::runs::{tables, Runs};
+use super::writer::write_both;
+use super::{agree, agree_octets, guarded, same, sides, Mismatch, Tally, What};
+
+/// Checks and loads by both; the runs as Rattle left them, with its answer.
+fn read(image: &ReadOnly, before: &Runs) -> Result<(ImageAnswer, Runs), Mismatch> {
+    let checked = ffi::check(image.run());
+    let theirs = sides::image(policer::check(image.run()));
+    same("check", &checked, &theirs)?;
+    let (mut rattle, mut rust) = (before.clone(), before.clone());
+    let ours = rattle.load_by_rattle(image.run());
+    same("load", &ours, &rust.load_by_rust(image.run()))?;
+    rattle.same(&rust)?;
+    if ours.code != 26 {
+        agree("the answer", ("check", &checked), ("load", &ours))?;
+    }
+    image.stayed("the image lent for reading")?;
+    Ok((ours, rattle))
+}
+
+/// Writes what was loaded into a room by both; where there is room, the image comes back.
+fn write_again(
+    image: &[u8],
+    answer: &ImageAnswer,
+    runs: Runs,
+    room: &Lent<u8>,
+) -> Result<(), Mismatch> {
+    let (accounts, links) = (ReadOnly::of(runs.accounts), ReadOnly::of(runs.links));
+    let tables = tables(answer, accounts.run(), links.run());
+    let (answer, written) = write_both(&tables, room)?;
+    accounts.stayed("the account rows lent for reading")?;
+    links.stayed("the link rows lent for reading")?;
+    let enough = room.run().len() >= image.len();
+    let code = if enough { 0 } else { 26 };
+    agree("the code", ("written", &answer.code), ("expected", &code))?;
+    if enough {
+        agree_octets("the octets", ("written", &written), ("image", image))?;
+    }
+    Ok(())
+}
+
+fn any_room(r: &mut Random, image: usize) -> Lent<u8> {
+    let octets = match r.below(4) {
+        0 => image + r.count(1, 40),
+        1 => image - 1,
+        2 => r.count(0, image),
+        _ => image,
+    };
+    Lent::garbage(r, octets, |n| n as u8)
+}
+
+/// The runs lent are long enough, mostly, for what the image or else its plan names.
+fn counts(image: &[u8], plan: &Plan) -> (usize, usize) {
+    let named = policer::check(image);
+    if named.code == 0 {
+        (named.accounts, named.links)
+    } else {
+        (plan.accounts.len(), plan.links.len())
+    }
+}
+
+pub fn run(r: &mut Random, tally: &mut Tally) -> Result<(), Mismatch> {
+    let plan = sound::plan(r);
+    let octets = damage::image(r, plan.clone());
+    let image = ReadOnly::new(r, &octets);
+    let told = |m: Mismatch| {
+        m.octets("image", &octets)
+            .rig(Rig::of_calls("image", &octets, &[]))
+    };
+    let (accounts, links) = guarded(|| Ok(counts(&octets, &plan))).map_err(told)?;
+    let before = Runs::any(r, accounts, links);
+    let told = |m: Mismatch| before.told(told(m));
+    let (answer, runs) = guarded(|| read(&image, &before)).map_err(told)?;
+    tally.count(What::Image, answer.code);
+    if answer.code == 0 {
+        let room = any_room(r, octets.len());
+        guarded(|| write_again(&octets, &answer, runs, &room))
+            .map_err(|m| told(m).octets("room lent", room.run()))?;
+    }
+    Ok(())
+}

@@ -1,0 +1,210 @@
+//! Policing steps: lists on one fresh account, and single calls on any values at all.
+
+use ffi::{StepAnswer, Terms};
+use policer::Account;
+use trials::plan::AccountRow;
+use trials::random::Random;
+use trials::traffic::{self, SIZE_EDGES};
+use trials::{damage, sound};
+
+use super::{agree, guarded, same, sides, Mismatch, Tally, What};
+
+/// An account on both sides.
+struct Pair {
+    terms: Terms,
+    credit: u32,
+    last: u64,
+    rust: Account,
+}
+
+impl Pair {
+    fn new(a: &AccountRow, credit: u32, last: u64) -> Self {
+        let (smax, k, jitter, mode) = (a.smax, a.k, a.jitter, a.mode);
+        Pair {
+            terms: Terms {
+                smax,
+                k,
+                jitter,
+                mode,
+            },
+            credit,
+            last,
+            rust: Account {
+                smax,
+                k,
+                jitter,
+                mode,
+                credit,
+                last,
+            },
+        }
+    }
+
+    fn same_state(&self, after: &str) -> Result<(), Mismatch> {
+        let ours = (self.terms, self.credit, self.last);
+        let a = &self.rust;
+        let terms = Terms {
+            smax: a.smax,
+            k: a.k,
+            jitter: a.jitter,
+            mode: a.mode,
+        };
+        same(after, &ours, &(terms, a.credit, a.last))
+    }
+
+    fn police(&mut self, octets: usize, time: u64) -> Result<StepAnswer, Mismatch> {
+        let ours = ffi::police(&self.terms, &mut self.credit, &mut self.last, octets, time);
+        let theirs = sides::step(self.rust.police(octets, time));
+        same("the step's answer", &ours, &theirs)?;
+        self.same_state("the account after the step")?;
+        Ok(ours)
+    }
+
+    fn top_up(&mut self, time: u64) -> Result<(), Mismatch> {
+        ffi::top_up(&self.terms, &mut self.credit, &mut self.last, time);
+        self.rust.top_up(time);
+        self.same_state("the account after the top-up")
+    }
+
+    fn figures(&self, octets: usize) -> Result<(), Mismatch> {
+        let capacity = ffi::capacity(&self.terms, self.credit);
+        same("the capacity", &capacity, &self.rust.capacity())?;
+        let cost = ffi::cost(&self.terms, self.credit, octets);
+        same("the cost", &cost, &self.rust.cost(octets))
+    }
+}
+
+fn any_size(r: &mut Random, smax: u16) -> usize {
+    let smax = usize::from(smax);
+    match r.below(20) {
+        0..=1 => r.pick(&SIZE_EDGES),
+        2 => r.pick(&[usize::MAX, 65_536 + 64, (1 << 32) + 64, 1 << 63]),
+        3..=4 => r.count(0, 1_600),
+        5..=7 => smax + 1 - r.count(0, 2).min(smax),
+        8..=12 => smax,
+        _ => r.count(64, smax.max(64)),
+    }
+}
+
+/// The next step of a list; no step but a late one is before the start.
+fn any_step(r: &mut Random, row: &AccountRow, pair: &Pair, start: u64) -> (usize, u64) {
+    let octets = any_size(r, row.smax);
+    let time = if r.once_in(100) {
+        traffic::wild_time(r)
+    } else {
+        traffic::time(r, row, pair.credit, pair.last, octets)
+    };
+    if time < pair.last {
+        (octets, time)
+    } else {
+        (octets, time.max(start))
+    }
+}
+
+/// All codes by the rule of demand 3.
+fn judge(row: &AccountRow, steps: &[(usize, u64)], codes: &Vec<u8>) -> Result<(), Mismatch> {
+    let terms = judge::Terms {
+        smax: row.smax,
+        k: row.k,
+        jitter: row.jitter,
+        mode: row.mode,
+    };
+    let judged = judge::step_codes(&terms, steps);
+    agree("the codes", ("Rattle", codes), ("judge", &judged))
+}
+
+/// Steps on one account from an accepted image, fresh.
+fn list(r: &mut Random, tally: &mut Tally) -> Result<(), Mismatch> {
+    let row = sound::account(r);
+    let full = row.capacity().expect("sound") as u32;
+    let mut pair = Pair::new(&row, full, 0);
+    let start = if r.once_in(2) {
+        0
+    } else {
+        traffic::wild_time(r)
+    };
+    let (mut steps, mut codes) = (vec![], vec![]);
+    let told = |m: Mismatch, steps: &[(usize, u64)]| {
+        m.input("account", row).input("steps (octets, time)", steps)
+    };
+    for _ in 0..r.below(80) {
+        let (octets, time) = any_step(r, &row, &pair, start);
+        steps.push((octets, time));
+        let answer = guarded(|| pair.police(octets, time)).map_err(|m| told(m, &steps))?;
+        tally.count(What::Step, answer.code);
+        codes.push(answer.code);
+    }
+    guarded(|| judge(&row, &steps, &codes)).map_err(|m| told(m, &steps))
+}
+
+/// An account of any values: sound, just unsound, or made up.
+fn any_account(r: &mut Random) -> (AccountRow, u32, u64) {
+    let mut row = sound::account(r);
+    match r.below(8) {
+        0 => damage::account(r, &mut row),
+        1 => {
+            let n = r.next();
+            row = AccountRow {
+                smax: n as u16 >> r.below(16),
+                k: (n >> 16) as u8 >> r.below(8),
+                jitter: (n >> 24) as u16 >> r.below(16),
+                mode: (n >> 40) as u8 >> r.below(8),
+            };
+        }
+        _ => {}
+    }
+    let full = row.capacity().unwrap_or(1_000_000) as u32;
+    let credit = any_credit(r, full);
+    let last = if r.once_in(2) {
+        1_000_000
+    } else {
+        traffic::wild_time(r)
+    };
+    (row, credit, last)
+}
+
+/// A credit below, at or above the capacity.
+pub fn any_credit(r: &mut Random, capacity: u32) -> u32 {
+    match r.below(20) {
+        0..=2 => 0,
+        3..=8 => capacity,
+        9 => capacity.saturating_sub(1),
+        10 => capacity.saturating_add(1),
+        11 => r.pick(&[u32::MAX, capacity.wrapping_mul(2), 1 << 31]),
+        _ => r.below(u64::from(capacity) + 1) as u32,
+    }
+}
+
+/// The figures, the top-up and the step of one account.
+fn single(r: &mut Random, tally: &mut Tally) -> Result<(), Mismatch> {
+    let (row, credit, last) = any_account(r);
+    let octets = any_size(r, row.smax);
+    let time = if r.once_in(5) {
+        traffic::wild_time(r)
+    } else {
+        traffic::time(r, &row, credit, last, octets)
+    };
+    let compared = guarded(|| {
+        let pair = || Pair::new(&row, credit, last);
+        pair().figures(octets)?;
+        pair().top_up(time)?;
+        pair().police(octets, time)
+    });
+    let answer = compared.map_err(|m| {
+        m.input("account", row)
+            .input("credit", credit)
+            .input("last time", last)
+            .input("octets", octets)
+            .input("time", time)
+    })?;
+    tally.count(What::Step, answer.code);
+    Ok(())
+}
+
+pub fn run(r: &mut Random, tally: &mut Tally) -> Result<(), Mismatch> {
+    list(r, tally)?;
+    for _ in 0..20 {
+        single(r, tally)?;
+    }
+    Ok(())
+}
