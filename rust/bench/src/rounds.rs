@@ -2,8 +2,9 @@
 
 use std::time::Instant;
 
-/// An odd number of rounds, so that the median is one of them.
-const ROUNDS: usize = 9;
+/// An odd number of rounds, so that the median is one of them; many, since a round of frame calls is some 13 ms and the
+/// machine is shared.
+const ROUNDS: usize = 31;
 
 /// The seconds that a piece of work takes, and what it gives.
 pub fn timed<T>(work: impl FnOnce() -> T) -> (f64, T) {
