@@ -5,14 +5,20 @@
  *
  * What is lent. A run is lent as a pointer and a count of its elements. The pointer is never NULL and is aligned for its
  * type, even where the count is 0. What is lent without `const` overlaps nothing else that is lent with the same call.
- * Nobody else writes there while a call runs, and nothing is kept after it. Any contents, counts, ports and times get an
- * answer. A single place, as `offset`, is always written.
+ * Nobody else writes there while a call runs, and nothing is kept after it. Any contents, counts, ports, networks and times
+ * get an answer. A single place, as `offset`, is always written.
  *
  * Tables. An account's row is 6 octets: Smax (2), k (1), jitter in microseconds (2), mode (1; 0 byte, 1 frame). The BAG is
  * 2^k milliseconds. A link's row is 13 octets: number (2), input port (1), mask of output ports (4, bit p for port p),
  * smallest and largest frame (2 each), account (2). Numbers of several octets have their high octet first. A row in part
  * is none. Each account has one credit and one last time. Time is in microseconds. An image has at most 64 accounts and
  * 256 links, so runs for these hold any; no image that is accepted has more than 4,683 octets.
+ *
+ * The receiving end. A link's row is 6 octets: number (2), SkewMax in microseconds (4). Row i has record i: the
+ * ASHTHULGO_RECORD_WORDS words from word ASHTHULGO_RECORD_WORDS * i of the records on. All start as zeros, which is an empty
+ * record. Its word 0 is the link's last stamp; words 1 and 2 are the last number on network A and on B with 1 added, 0 for
+ * none; from word 3 on there are two words for each network, A first, and each number from 0 to 255: other than 0 where its
+ * latest delivery awaits its copy, and that delivery's stamp. Rows in use are those of which row and record are lent whole.
  */
 #ifndef ASHTHULGO_H
 #define ASHTHULGO_H
@@ -49,6 +55,20 @@ enum {
     ASHTHULGO_IMAGE_MORE = 25,   /* octets behind the end */
     ASHTHULGO_IMAGE_ROOM = 26    /* a lent run or room too short */
 };
+
+/* Answers of the receiving end, besides ASHTHULGO_UNKNOWN_LINK and ASHTHULGO_LATE (a stamp before the link's last). */
+enum {
+    ASHTHULGO_DELIVERED = 0,
+    ASHTHULGO_COPY = 30,           /* of a frame that was delivered on the other network */
+    ASHTHULGO_OUT_OF_SEQUENCE = 31 /* neither first, nor 0, nor one or two steps on from the last number on its network */
+};
+
+/* Words of a link's record at the receiving end. */
+#define ASHTHULGO_RECORD_WORDS 1027
+
+/* The networks. */
+#define ASHTHULGO_NETWORK_A 0
+#define ASHTHULGO_NETWORK_B 1
 
 /* The first octet of a frame's payload. */
 #define ASHTHULGO_PAYLOAD_START 14
@@ -113,6 +133,14 @@ uint8_t ashthulgo_load(const uint8_t *image, size_t image_octets, uint8_t *accou
 uint8_t ashthulgo_write(uint32_t constant, const uint8_t *accounts, size_t account_octets, size_t account_count,
                         const uint8_t *links, size_t link_octets, size_t link_count, uint8_t *room, size_t room_octets,
                         size_t *offset);
+
+/*
+ * The receiving end's call, for a frame that came in on a link and a network (0 is A, any other number is B) with a sequence
+ * number and a stamp in microseconds: answers 0, 4, 8, 30 or 31. The first row in use with the link's number counts. Only
+ * that row's record changes; 4 and 8 change nothing. Rows and records beyond those in use are neither read nor written.
+ */
+uint8_t ashthulgo_receive(uint16_t link, uint8_t network, uint8_t number, uint64_t stamp, const uint8_t *rows, size_t row_octets,
+                          uint64_t *records, size_t record_words);
 
 #ifdef __cplusplus
 }

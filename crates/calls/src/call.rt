@@ -1,7 +1,7 @@
 // One frame call by what is lent; credits and last times are kept for the next.
-use super::room::Line;
 use super::room::Room;
 use super::say;
+use script::Line;
 use switch::Verdict;
 
 // A verdict, with all credits and last times after it.

@@ -12,16 +12,7 @@
 //   frame octets constant link port time                 a frame call
 // A remainder keeps each number within its width; no case needs it.
 
-// The last seven numbers of a line, in its order; a line of fewer has them at the end.
-pub(crate) struct Line {
-    pub(crate) a: u64,
-    pub(crate) b: u64,
-    pub(crate) c: u64,
-    pub(crate) d: u64,
-    pub(crate) e: u64,
-    pub(crate) f: u64,
-    pub(crate) g: u64,
-}
+use script::Line;
 
 // Rows, credits and last times, and the last line `given`.
 pub(crate) struct Room {
@@ -32,25 +23,13 @@ pub(crate) struct Room {
     pub(crate) given: Line,
 }
 
-pub(crate) fn no_numbers() -> Line {
-    Line {
-        a: 0,
-        b: 0,
-        c: 0,
-        d: 0,
-        e: 0,
-        f: 0,
-        g: 0,
-    }
-}
-
 pub(crate) fn empty() -> Room {
     Room {
         accounts: [0u8; 24],
         links: [0u8; 78],
         credits: [0u32; 4],
         lasts: [0u64; 4],
-        given: no_numbers(),
+        given: script::no_numbers(),
     }
 }
 

@@ -8,6 +8,8 @@ use lib.ListN.{length, getD}
 use lib.Dec.{leb, eqb}
 use borrow.Author.Tests.{eqb-true}
 use Rattle.octets.specs.Choice.{if_then_else_}
+use Rattle.octets.specs.Lists.{only}
+use Rattle.octets.proofs.Lists.{only-take, only-drop, only-more, only-same, only-only}
 use Rattle.octets.proofs.Tests.{split, both}
 use Rattle.account.specs.Step.{policed}
 use Rattle.rule.specs.Rule.{rulePast}
@@ -22,10 +24,9 @@ use Rattle.loader.specs.Fresh.{Fresh}
 use Rattle.switch.specs.Verdict.{Told, told, withMask}
 use Rattle.switch.specs.declared.Verdict.the-variants.{Refused}
 use Rattle.switch.specs.Call.{State, Call, accountHeld}
-use Rattle.demands.specs.History.{answers, final, configIn, stateIn, only, answersTo}
+use Rattle.demands.specs.History.{answers, final, configIn, stateIn, answersTo}
 use Rattle.demands.specs.Rule.{imageTerms, imageLink, linkRow, filterCode, names, destinationOctets, meant, passing, arrivalOf, reachedIn}
 use Rattle.demands.specs.Demand3.{Isolation, IsolationOfFreshTables}
-use Rattle.demands.proofs.Lists.{only-take, only-drop, only-more, only-same, only-only}
 use Rattle.demands.proofs.Tables.{tables}
 use Rattle.demands.proofs.Rule.{link-verdict, verdict-for, account-of, verdicts-after, history-verdicts, history-stands, starts}
 use Rattle.demands.proofs.Words.{loaded-fresh, loaded-config}

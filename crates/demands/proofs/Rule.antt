@@ -10,6 +10,8 @@ use lib.Seq.{append-snoc, getD-set-same, getD-set-other}
 use lib.Dec.{eqb}
 use borrow.Author.Tests.{eq-eqb, ne-eqb, eqb-true, eqb-false}
 use Rattle.octets.specs.Choice.{if_then_else_}
+use Rattle.octets.specs.Lists.{only}
+use Rattle.octets.proofs.Lists.{only-more, only-same}
 use Rattle.octets.proofs.Tests.{split}
 use Rattle.frame.specs.Frame.{lengthCode}
 use Rattle.account.specs.Terms.{Terms}
@@ -33,10 +35,10 @@ use Rattle.switch.specs.Call.{State, stateOf, Call, After, accountsInUse, inUse
 use Rattle.switch.specs.declared.Verdict.the-variants.{Refused}
 use Rattle.filter.proofs.Filter.{frame-zero}
 use Rattle.switch.proofs.Call.{held-again, decided-refused, decided-policed}
-use Rattle.demands.specs.History.{answers, final, codes, configIn, stateIn, only}
+use Rattle.demands.specs.History.{answers, final, codes, configIn, stateIn}
 use Rattle.demands.specs.Rule.{imageTerms, imageLink, linkRow, filterCode, passing, arrivalOf, reachedIn, ruleCode, ruleCodesAfter}
 use Rattle.demands.specs.Demand3.{RuleOfFreshTables}
-use Rattle.demands.proofs.Lists.{only-more, only-same, rule-snoc}
+use Rattle.demands.proofs.Lists.{rule-snoc}
 use Rattle.demands.proofs.Tables.{Tables, tables, long, starts-loaded}
 use Rattle.demands.proofs.Filter.{frame-code, filter-frame, filter-unknown, filter-link, by-filter, passes-none, passes-link, call-frame, call-nowhere, call-link}
 

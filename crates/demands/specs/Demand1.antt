@@ -1,5 +1,6 @@
--- Demand 1: every call answers, and a refusal changes nothing. The statements stand with the calls that they are about; here they are
--- gathered. All are for any input whatsoever. Proved in proofs/Demands.antt.
+-- Demand 1, of document 01's calls: every call answers, and a refusal changes nothing. The statements stand with the calls that they
+-- are about; here they are gathered. All are for any input whatsoever. Proved in proofs/Demands.antt. The receiving end's are gathered
+-- in receptions.
 use Rattle.frame.specs.Claims.{ReadingAnswers, ReadingRefused}
 use Rattle.account.specs.Claims.{StepAnswers, RefusedStepKeeps, RefusedStepTells, ToldApart, ShortStepTopsUp}
 use Rattle.image.specs.Claims.{ReadCodes}

@@ -6,6 +6,7 @@ use mathlib.Core.List.{List, [], _∷_, map, List·Memᴰ}
 use mathlib.Core.Logic.{_↔_}
 use mathlib.Core.Path.{_≡_}
 use lib.ListN.{length, getD, set, take, replicate}
+use Rattle.octets.specs.Lists.{only}
 use Rattle.account.specs.Terms.{cost}
 use Rattle.rule.specs.Bucket.{lastTime, FromEach, RuleRead}
 use Rattle.rule.specs.Rule.{allowance, RuleOfSteps, StepsInWords}
@@ -16,7 +17,7 @@ use Rattle.loader.specs.Loading.{Runs, loading}
 use Rattle.loader.specs.Fresh.{Fresh}
 use Rattle.trips.specs.Trips.{loadedTables}
 use Rattle.switch.specs.Call.{State, Call, callOf, called}
-use Rattle.demands.specs.History.{answers, final, codes, configIn, stateIn, only, answersTo}
+use Rattle.demands.specs.History.{answers, final, codes, configIn, stateIn, answersTo}
 use Rattle.demands.specs.Rule.{imageTerms, linkRow, accountNamed, filterCode, meant, reachedIn, ruleCodes}
 
 -- ---- first half

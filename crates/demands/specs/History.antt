@@ -30,11 +30,7 @@ configIn s r = configFor (readImage s) (r .accounts) (r .links)
 abbrev pub stateIn : Runs → State
 stateIn r = stateOf (r .credits) (r .lasts)
 
--- the calls of a list that a test holds of, and the answers to these
-unfoldable pub only : (Call → Bool) → List Call → List Call
-only p [] = []
-only p (f ∷ fs) = if p f then f ∷ only p fs else only p fs
-
+-- the answers to those calls of a list that a test holds of
 unfoldable pub answersTo : (Call → Bool) → List Call → List Told → List Told
 answersTo p [] ws = []
 answersTo p (f ∷ fs) [] = []

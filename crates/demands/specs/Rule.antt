@@ -6,6 +6,7 @@ use mathlib.Core.List.{List, [], _∷_, _++_, map}
 use lib.ListN.{length}
 use lib.Dec.{leb, eqb}
 use Rattle.octets.specs.Choice.{if_then_else_}
+use Rattle.octets.specs.Lists.{only}
 use Rattle.frame.specs.Frame.{linkNumber}
 use Rattle.account.specs.Terms.{Terms}
 use Rattle.rule.specs.Bucket.{Reached}
@@ -17,7 +18,6 @@ use Rattle.tables.specs.declared.Link.{Link}
 use Rattle.image.specs.Read.{accountFields, linkFields, readImage}
 use Rattle.filter.specs.Filter.{frameCode, portCode}
 use Rattle.switch.specs.Call.{Call}
-use Rattle.demands.specs.History.{only}
 
 -- ---- what the image says: account i
 abbrev pub imageTerms : List ℕ → ℕ → Terms

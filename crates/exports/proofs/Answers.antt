@@ -1,8 +1,10 @@
 -- Answers in numbers, from those of the libraries. Assumes nothing.
 use Prim.Native.Nat.{ℕ}
 use mathlib.Core.Bool.{_&&_}
+use mathlib.Core.List.{List}
 use mathlib.Core.Path.{_≡_, ap, _∙_}
 use lib.Dec.{leb}
+use borrow.Author.Tests.{eq-eqb, ne-eqb}
 use Rattle.octets.proofs.Tests.{split}
 use Rattle.account.specs.Account.{holding, valid, toppedUp}
 use Rattle.account.specs.Step.{Stepped, policed}
@@ -12,7 +14,12 @@ use Rattle.image.specs.declared.Loaded.{Loaded}
 use Rattle.loader.specs.Loading.{Runs, Loading, loadingOf}
 use Rattle.switch.specs.Verdict.{Told}
 use Rattle.switch.specs.Call.{State, After, afterOf}
-use Rattle.exports.specs.Numbers.{stepSays, stepDone, stepDoneOf, callSays, callDone, callDoneOf}
+use Rattle.exports.specs.Numbers.{stepSays, stepDone, stepDoneOf, callSays, callDone, callDoneOf, networkOf, receptionDone, receptionDoneOf}
+use Rattle.receive.specs.Lent.{arrivalOf}
+use Rattle.receive.specs.Receive.{told as receptionTold, afterOf as receivedOf, received}
+use Rattle.receive.specs.declared.Network.{Network}
+use Rattle.receive.specs.declared.Network.the-variants.{A, B}
+use Rattle.receive.specs.declared.Reception.{Reception}
 use Rattle.exports.specs.declared.accounts.StepNumbers.{StepNumbers}
 use Rattle.exports.specs.declared.calls.CallNumbers.{CallNumbers}
 
@@ -38,3 +45,18 @@ call-done n w s r p q = ap (λ m. callDone m s) p ∙ ap callDoneOf q
 
 pub load-done : (q a : Loaded) (r : Runs) (l : Loading) → q ≡ a → loadingOf a r ≡ l → loadingOf q r ≡ l
 load-done q a r l e f = ap (λ (x : Loaded). loadingOf x r) e ∙ f
+
+-- a network by its number
+pub network-a : (n : ℕ) → n ≡ 0 → A ≡ networkOf n
+network-a n e = simp (eq-eqb _ _ e)
+
+pub network-b : (n : ℕ) → (n ≡ 0 → ⊥) → B ≡ networkOf n
+network-b n d = simp (ne-eqb _ _ d)
+
+pub reception-done : (rows r : List ℕ) (link : ℕ) (x : Network) (n t m : ℕ) (a : Reception) (s : List ℕ) (k : ℕ) → x ≡ networkOf m
+    → receivedOf a s ≡ received rows r (arrivalOf link x n t) → k ≡ receptionTold a
+    → receptionDone k s ≡ receptionDoneOf (received rows r (arrivalOf link (networkOf m) n t))
+reception-done rows r link x n t m a s k e q p =
+    ap (λ (y : ℕ). receptionDone y s) p
+    ∙ ap receptionDoneOf q
+    ∙ ap (λ (y : Network). receptionDoneOf (received rows r (arrivalOf link y n t))) e

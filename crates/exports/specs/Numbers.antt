@@ -1,13 +1,19 @@
--- Answers of document 01 as programs in other languages get them: a number for each part, 0 for a mask or a credit that an answer
+-- Answers of document 01 and of request Q-1 as programs in other languages get them: a number for each part, 0 for a mask or a credit that an answer
 -- doesn't carry. By its code a caller knows which it carries ("Codes, in order of checking": the verdict carries its own data).
 use Prim.Native.Nat.{ℕ}
+use mathlib.Core.List.{List}
 use mathlib.Core.Option.{Option, none, some}
+use lib.Dec.{eqb}
+use Rattle.octets.specs.Choice.{if_then_else_}
 use Rattle.frame.specs.declared.Header.{Header}
 use Rattle.account.specs.Step.{Told as StepTold, Stepped}
 use Rattle.account.specs.declared.Account.{Account}
 use Rattle.image.specs.declared.Loaded.{Loaded}
 use Rattle.switch.specs.Verdict.{Told}
 use Rattle.switch.specs.Call.{State, After}
+use Rattle.receive.specs.Receive.{told, After as Received}
+use Rattle.receive.specs.declared.Network.{Network}
+use Rattle.receive.specs.declared.Network.the-variants.{A, B}
 use Rattle.exports.specs.declared.accounts.StepNumbers.{StepNumbers}
 use Rattle.exports.specs.declared.calls.CallNumbers.{CallNumbers}
 
@@ -62,3 +68,17 @@ callDoneOf r = callDone (callSays (r .says)) (r .state)
 abbrev pub loadedWith : ℕ → ℕ → ℕ → ℕ → ℕ → Loaded
 loadedWith code offset constant accounts links =
     record { code = code; offset = offset; constant = constant; accounts = accounts; links = links }
+
+-- ---- the receiving end's call (document 02, Q-1): the number of its answer, and the records that it leaves
+abbrev pub networkOf : ℕ → Network
+networkOf n = if eqb n 0 then A else B
+
+pub record ReceptionDone : Type 0 where
+  pub number : ℕ
+  pub records : List ℕ
+
+abbrev pub receptionDone : ℕ → List ℕ → ReceptionDone
+receptionDone n r = record { number = n; records = r }
+
+abbrev pub receptionDoneOf : Received → ReceptionDone
+receptionDoneOf z = receptionDone (told (z .says)) (z .records)

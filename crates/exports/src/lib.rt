@@ -5,3 +5,4 @@ mod accounts;
 mod calls;
 mod frames;
 mod images;
+mod receptions;

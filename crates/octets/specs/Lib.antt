@@ -1,4 +1,5 @@
 pub mod Choice
 pub mod Claims
+pub mod Lists
 pub mod Numbers
 pub mod Runs

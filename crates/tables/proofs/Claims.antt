@@ -49,7 +49,7 @@ module _ (l : Rows) (n x : ℕ) where
       (omega arith, eqb-true _ _ (not-false (eqb (linkIn l i .number) x) t), λ j k. others j (omega arith)))
       (λ h e. absurd (false≢true (ap is-at e)))
 
-  none-found : foundIn l n x ≡ Nowhere → (j : ℕ) → j < n → linkIn l j .number ≡ x → ⊥
+  pub none-found : foundIn l n x ≡ Nowhere → (j : ℕ) → j < n → linkIn l j .number ≡ x → ⊥
   none-found =
       by-found (λ f. f ≡ Nowhere → (j : ℕ) → j < n → linkIn l j .number ≡ x → ⊥)
       (λ h e. absurd (false≢true (sym (ap is-at e))))

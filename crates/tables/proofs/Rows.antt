@@ -14,7 +14,7 @@ use Rattle.octets.proofs.Parts.{getD-clamped, getD-within, length-part, getD-pa
 use Rattle.octets.proofs.Runs.{getD-put}
 use Rattle.account.specs.Terms.{Terms}
 use Rattle.tables.specs.Leading.{leading}
-use Rattle.tables.specs.Rows.{accountOctets, linkOctets, termsAt, linkAt, linkTable, linksInUse, otherNumber, foundIn, found}
+use Rattle.tables.specs.Rows.{accountOctets, linkOctets, termsAt, linkAt, tableOf, linksInUse, otherNumber, foundIn}
 use Rattle.tables.specs.declared.Link.{Link}
 use Rattle.tables.specs.declared.Found.the-variants.{At, Nowhere}
 use Rattle.tables.proofs.Leading.{leading-on, leading-stop}
@@ -76,26 +76,27 @@ row-inside links count rows i e h =
     let d : linkOctets * (length links / linkOctets) ≤ length links = rw (mul-comm linkOctets (length links / linkOctets)) (div-mul-le-self (length links) linkOctets) in
     omega arith
 
-module _ (links : List ℕ) (count x rows : ℕ) (e : rows ≡ linksInUse links count) (i : ℕ) (s : leading (otherNumber (linkTable links) x) i ≡ i) where
-  module _ (h : i < rows) (r : ℕ) (v : r ≡ numberAt 2 links (linkOctets * i)) where
-    number-is : linkAt links (0 + linkOctets * i) .number ≡ r
+-- rows of any width, the first of which `used` are in use
+module _ (w : ℕ) (octets : List ℕ) (x used rows : ℕ) (e : rows ≡ used) (i : ℕ) (s : leading (otherNumber (tableOf w octets) x) i ≡ i) where
+  module _ (h : i < rows) (r : ℕ) (v : r ≡ numberAt 2 octets (w * i)) where
+    number-is : linkAt octets (0 + w * i) .number ≡ r
     unfolding linkAt
-    number-is = ap (numberAt 2 links) (zero-add (linkOctets * i)) ∙ sym v
+    number-is = ap (numberAt 2 octets) (zero-add (w * i)) ∙ sym v
 
-    pub search-on : (r ≡ x → ⊥) → leading (otherNumber (linkTable links) x) (suc i) ≡ suc i
-    search-on d = leading-on (otherNumber (linkTable links) x) i s (ap not (ne-eqb _ _ (λ q. d (sym number-is ∙ q))))
+    pub search-on : (r ≡ x → ⊥) → leading (otherNumber (tableOf w octets) x) (suc i) ≡ suc i
+    search-on d = leading-on (otherNumber (tableOf w octets) x) i s (ap not (ne-eqb _ _ (λ q. d (sym number-is ∙ q))))
 
-    pub search-hit : r ≡ x → At i ≡ found links count x
+    pub search-hit : r ≡ x → At i ≡ foundIn (tableOf w octets) used x
     unfolding foundIn
     search-hit q =
-        let f : leading (otherNumber (linkTable links) x) rows ≡ i = leading-stop (otherNumber (linkTable links) x) i rows s (ap not (eq-eqb _ _ (number-is ∙ q))) h in
+        let f : leading (otherNumber (tableOf w octets) x) rows ≡ i = leading-stop (otherNumber (tableOf w octets) x) i rows s (ap not (eq-eqb _ _ (number-is ∙ q))) h in
         rw (← e, f) (simp (lt-ltb _ _ h))
 
-  pub search-miss : rows ≤ i → i ≤ rows → Nowhere ≡ found links count x
+  pub search-miss : rows ≤ i → i ≤ rows → Nowhere ≡ foundIn (tableOf w octets) used x
   unfolding foundIn
   search-miss h k =
       let m : i ≡ rows = omega arith in
-      let f : leading (otherNumber (linkTable links) x) rows ≡ rows = rw m at s in
+      let f : leading (otherNumber (tableOf w octets) x) rows ≡ rows = rw m at s in
       rw (← e, f) (simp (le-ltb rows rows (omega arith)))
 
 -- ---- the same rows of octets have the same values

@@ -3,6 +3,8 @@
 
 mod raw;
 
+use std::num::NonZeroU8;
+
 /// What reading a frame answers.
 #[derive(Debug, Clone, Copy, PartialEq, Eq)]
 pub struct FrameAnswer {
@@ -62,6 +64,27 @@ pub struct Tables<'a> {
     pub account_count: usize,
     pub links: &'a [u8],
     pub link_count: usize,
+}
+
+/// A network as the library is told it: 0 is A, any other number B.
+#[derive(Debug, Clone, Copy, PartialEq, Eq)]
+pub enum Network {
+    A,
+    B(NonZeroU8),
+}
+
+impl Network {
+    /// The network of a number.
+    pub fn of(number: u8) -> Self {
+        NonZeroU8::new(number).map_or(Network::A, Network::B)
+    }
+
+    fn number(self) -> u8 {
+        match self {
+            Network::A => 0,
+            Network::B(number) => number.get(),
+        }
+    }
 }
 
 pub fn read_frame(frame: &[u8]) -> FrameAnswer {
@@ -209,4 +232,28 @@ pub fn write(tables: &Tables, room: &mut [u8]) -> WriteAnswer {
         )
     };
     WriteAnswer { code, offset }
+}
+
+#[inline]
+pub fn receive(
+    link: u16,
+    network: Network,
+    number: u8,
+    stamp: u64,
+    rows: &[u8],
+    records: &mut [u64],
+) -> u8 {
+    // SAFETY: two slices, one of them exclusive.
+    unsafe {
+        raw::ashthulgo_receive(
+            link,
+            network.number(),
+            number,
+            stamp,
+            rows.as_ptr(),
+            rows.len(),
+            records.as_mut_ptr(),
+            records.len(),
+        )
+    }
 }

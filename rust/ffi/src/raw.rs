@@ -92,4 +92,14 @@ extern "C" {
         room_octets: usize,
         offset: *mut usize,
     ) -> u8;
+    pub fn ashthulgo_receive(
+        link: u16,
+        network: u8,
+        number: u8,
+        stamp: u64,
+        rows: *const u8,
+        row_octets: usize,
+        records: *mut u64,
+        record_words: usize,
+    ) -> u8;
 }

@@ -67,6 +67,15 @@ static void read_and_write(void)
     printf("write %u %zu %d %x\n", code, offset, memcmp(room, image, sizeof image), room[36]);
 }
 
+/* Link 7 with a SkewMax of 5,000. */
+static void receive(uint16_t link, uint8_t network, uint8_t number, uint64_t stamp)
+{
+    static const uint8_t rows[6] = {0, 7, 0, 0, 0x13, 0x88};
+    static uint64_t records[ASHTHULGO_RECORD_WORDS];
+    uint8_t code = ashthulgo_receive(link, network, number, stamp, rows, sizeof rows, records, ASHTHULGO_RECORD_WORDS);
+    printf("receive %u | %" PRIu64 " %" PRIu64 " %" PRIu64 "\n", code, records[0], records[1], records[2]);
+}
+
 int main(void)
 {
     check_and_load();
@@ -78,5 +87,10 @@ int main(void)
     call(200, UINT64_MAX);
     account();
     read_and_write();
+    receive(7, ASHTHULGO_NETWORK_A, 1, 100);
+    receive(7, ASHTHULGO_NETWORK_B, 1, 5100);
+    receive(7, ASHTHULGO_NETWORK_B, 9, 5200);
+    receive(7, ASHTHULGO_NETWORK_A, 2, 5199);
+    receive(8, ASHTHULGO_NETWORK_A, 2, 5200);
     return 0;
 }

@@ -19,6 +19,11 @@ police 0 0 | 0 500
 police 10 0 | 0 500
 read 0 258 77 45
 write 0 36 0 ee
+receive 0 | 100 2 0
+receive 30 | 5100 2 2
+receive 31 | 5200 2 10
+receive 8 | 5200 2 10
+receive 4 | 5200 2 10
 ";
 
 #[test]

@@ -2,9 +2,12 @@
 //!
 //! Nothing here holds a credit. For each account the judge only remembers the
 //! frames that reached it, and sums what it let through since each of them.
-//! That takes quadratic time in the frames of one account.
+//! That takes quadratic time in the frames of one account. `receive` does the
+//! same for the rule of request Q-1.
 #![forbid(unsafe_code)]
 #![warn(missing_docs)]
+
+pub mod receive;
 
 /// One frame call of a history.
 #[derive(Debug, Clone, Copy, PartialEq, Eq)]

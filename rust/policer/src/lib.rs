@@ -1,8 +1,9 @@
 //! A plain Rust version of document 01: configuration images, the frame
-//! filter, the policer and the replay of recorded rigs.
+//! filter, the policer and the replay of recorded rigs. Beside it the receiving
+//! end of request Q-1.
 //!
 //! Every function here is total: it answers for any octets, tables, counts,
-//! ports and times, and never panics.
+//! ports, records and times, and never panics.
 #![forbid(unsafe_code)]
 #![warn(missing_docs)]
 
@@ -10,6 +11,7 @@ mod account;
 mod filter;
 mod frame;
 mod image;
+mod receive;
 mod replay;
 mod rules;
 mod tables;
@@ -18,5 +20,6 @@ pub use account::{Account, Outcome};
 pub use filter::{frame_call, Verdict};
 pub use frame::{header, payload, Header};
 pub use image::{check, load, write, Loaded, Written};
+pub use receive::{receive, Network, Reception, RECEIVE_ROW, RECORD_WORDS};
 pub use replay::replay;
 pub use tables::Config;

@@ -1,4 +1,4 @@
-//! The numbers of document 01: limits and answer codes.
+//! The numbers of document 01: limits and answer codes; those of request Q-1.
 
 /// Shortest frame, in octets.
 pub const FRAME_MIN: usize = 64;
@@ -46,3 +46,8 @@ pub const BAD_VALUE: u8 = 23;
 pub const BAD_COUNT: u8 = 24;
 pub const TRAILING: u8 = 25;
 pub const NO_ROOM: u8 = 26;
+
+/// Codes of the receiving end, beside `NO_LINK` and `LATE`.
+pub const DELIVERED: u8 = 0;
+pub const COPY: u8 = 30;
+pub const OUT_OF_SEQUENCE: u8 = 31;

@@ -1,5 +1,5 @@
-//! Runs the proved library beside the plain Rust version and, where demand 3 speaks, the judge. Every case comes from the
-//! seed, its kind and its number alone.
+//! Runs the proved library beside the plain Rust version and, where demand 3 or Q-1 speaks, the judge. Every case comes
+//! from the seed, its kind and its number alone.
 //!
 //! `cargo test --release --offline -p trials --test differential -- [TIMES] [--seed N] [--only KIND [CASE]]`
 
@@ -15,9 +15,10 @@ const SEED: u64 = 664;
 const USAGE: &str = "arguments: [TIMES] [--seed N] [--only KIND [CASE]], TIMES at least 1";
 
 /// What a full run compares at least.
-const LEAST: [(What, u64, &str); 2] = [
+const LEAST: [(What, u64, &str); 3] = [
     (What::FrameCall, 1_000_000, "frame calls"),
     (What::Image, 100_000, "images"),
+    (What::Receive, 1_000_000, "receive calls"),
 ];
 
 struct Options {

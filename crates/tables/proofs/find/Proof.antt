@@ -26,7 +26,7 @@ inside c k h = row-inside (c .before .before .before .args .links .now) (c .befo
 first : (c : tie.Else1 Inv-loop μ-loop) → leading (otherNumber (linkTable (c .before .before .before .before .before .before .args .links .now)) (c .before .before .before .before .before .before .args .number)) (c .before .before .before .loop .i + 1) ≡ c .before .before .before .loop .i + 1
 first c =
     rw (add-one (c .before .before .before .loop .i))
-    (search-on _ _ _ _ (c .before .before .before .before .least .ensures) _ (c .before .before .before .loop .inv .1) (omega arith) _ (c .before .u16-in .ensures) (c .if1 .left))
+    (search-on linkOctets _ _ _ _ (c .before .before .before .before .least .ensures) _ (c .before .before .before .loop .inv .1) (omega arith) _ (c .before .u16-in .ensures) (c .if1 .left))
 
 least-requires : tie.Need-least-requires Inv-loop μ-loop
 least-requires c κs = search needs
@@ -44,7 +44,7 @@ u16-in-requires : tie.Need-u16-in-requires Inv-loop μ-loop
 u16-in-requires c κs = omega (arith, inside (c .before) (c .before .loop .i) (omega arith))
 
 returns : tie.Need-returns Inv-loop μ-loop
-returns c = search-hit _ _ _ _ (c .before .before .before .before .least .ensures) _ (c .before .before .before .loop .inv .1) (omega arith) _ (c .before .u16-in .ensures) (c .if1 .taken)
+returns c = search-hit linkOctets _ _ _ _ (c .before .before .before .before .least .ensures) _ (c .before .before .before .loop .inv .1) (omega arith) _ (c .before .u16-in .ensures) (c .if1 .taken)
 
 add-next : tie.Need-add-next Inv-loop μ-loop
 add-next c = omega arith
@@ -56,7 +56,7 @@ u16-in-requires-2 : tie.Need-u16-in-requires-2 Inv-loop μ-loop
 u16-in-requires-2 c κs = omega (arith, inside (c .before .before .before) (c .before .before .before .loop .i + 1) (omega arith))
 
 returns-2 : tie.Need-returns-2 Inv-loop μ-loop
-returns-2 c = search-hit _ _ _ _ (c .before .before .before .before .before .before .least .ensures) _ (first (c .before .before)) (omega arith) _ (c .before .u16-in2 .ensures) (c .if2 .taken)
+returns-2 c = search-hit linkOctets _ _ _ _ (c .before .before .before .before .before .before .least .ensures) _ (first (c .before .before)) (omega arith) _ (c .before .u16-in2 .ensures) (c .if2 .taken)
 
 add-i : tie.Need-add-i Inv-loop μ-loop
 add-i c = omega arith
@@ -69,7 +69,7 @@ loop-again c =
     let i : ℕ = c .before .before .before .before .before .loop .i in
     let e : suc (i + 1) ≡ i + 2 = omega arith in (
       omega arith,
-      rw (← e) (search-on _ _ _ _ (c .before .before .before .before .before .before .least .ensures) _ (first (c .before .before)) (omega arith) _ (c .before .u16-in2 .ensures) (c .if2 .left)),
+      rw (← e) (search-on linkOctets _ _ _ _ (c .before .before .before .before .before .before .least .ensures) _ (first (c .before .before)) (omega arith) _ (c .before .u16-in2 .ensures) (c .if2 .left)),
     )
 
 mul-u16-in-3 : tie.Need-mul-u16-in-3 Inv-loop μ-loop
@@ -79,16 +79,16 @@ u16-in-requires-3 : tie.Need-u16-in-requires-3 Inv-loop μ-loop
 u16-in-requires-3 c κs = omega (arith, inside (c .before .before) (c .before .before .loop .i) (c .if3 .taken))
 
 returns-3 : tie.Need-returns-3 Inv-loop μ-loop
-returns-3 c = search-hit _ _ _ _ (c .before .before .before .before .before .least .ensures) _ (c .before .before .before .before .loop .inv .1) (c .before .before .if3 .taken) _ (c .before .u16-in3 .ensures) (c .if4 .taken)
+returns-3 c = search-hit linkOctets _ _ _ _ (c .before .before .before .before .before .least .ensures) _ (c .before .before .before .before .loop .inv .1) (c .before .before .if3 .taken) _ (c .before .u16-in3 .ensures) (c .if4 .taken)
 
 returns-4 : tie.Need-returns-4 Inv-loop μ-loop
 returns-4 c =
-    search-miss _ _ _ _ (c .before .before .before .before .before .least .ensures) (suc (c .before .before .before .before .loop .i))
-    (search-on _ _ _ _ (c .before .before .before .before .before .least .ensures) _ (c .before .before .before .before .loop .inv .1) (c .before .before .if3 .taken) _ (c .before .u16-in3 .ensures) (c .if4 .left))
+    search-miss linkOctets _ _ _ _ (c .before .before .before .before .before .least .ensures) (suc (c .before .before .before .before .loop .i))
+    (search-on linkOctets _ _ _ _ (c .before .before .before .before .before .least .ensures) _ (c .before .before .before .before .loop .inv .1) (c .before .before .if3 .taken) _ (c .before .u16-in3 .ensures) (c .if4 .left))
     (omega arith) (omega arith)
 
 returns-5 : tie.Need-returns-5 Inv-loop μ-loop
-returns-5 c = search-miss _ _ _ _ (c .before .before .before .least .ensures) _ (c .before .before .loop .inv .1) (c .if3 .left) (c .before .before .loop .inv .0)
+returns-5 c = search-miss linkOctets _ _ _ _ (c .before .before .before .least .ensures) _ (c .before .before .loop .inv .1) (c .if3 .left) (c .before .before .loop .inv .0)
 
 pub find-spec : {M : Type 1} → statement M
 find-spec =

@@ -35,9 +35,20 @@ impl<T: Clone> Lent<T> {
         Lent::around(r, &run, some)
     }
 
+    /// The first so many elements; the others then lie behind the run.
+    pub fn shortened(mut self, n: usize) -> Self {
+        self.behind += self.run().len() - n;
+        self
+    }
+
     /// The run with what lies around it.
     pub fn all(&self) -> &[T] {
         &self.all
+    }
+
+    /// How many elements lie before the run.
+    pub fn before(&self) -> usize {
+        self.before
     }
 
     pub fn run(&self) -> &[T] {

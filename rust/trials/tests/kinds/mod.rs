@@ -1,10 +1,13 @@
 //! The kinds of cases, and what they have in common.
 
+mod arrivals;
 mod frames;
 mod histories;
 mod images;
 mod lent;
 mod made;
+mod receptions;
+mod records;
 mod replays;
 mod rigs;
 mod runs;
@@ -43,7 +46,7 @@ impl Kind {
     }
 }
 
-pub const KINDS: [Kind; 7] = [
+pub const KINDS: [Kind; 9] = [
     Kind {
         name: "images",
         cases: 300_000,
@@ -85,6 +88,18 @@ pub const KINDS: [Kind; 7] = [
         cases: 600,
         covers: &[(What::FrameCall, &[10]), (What::Image, &[26])],
         run: replays::run,
+    },
+    Kind {
+        name: "arrivals",
+        cases: 50_000,
+        covers: &[(What::Receive, &[])],
+        run: arrivals::run,
+    },
+    Kind {
+        name: "receptions",
+        cases: 6_000,
+        covers: &[(What::Receive, &[]), (What::ReceiveAlone, &[])],
+        run: receptions::run,
     },
 ];
 

@@ -2,6 +2,7 @@
 
 use ffi::{CallAnswer, FrameAnswer, ImageAnswer, StepAnswer, Tables, WriteAnswer};
 use policer::{Config, Loaded, Outcome, Verdict, Written};
+use trials::arrivals::Arrival;
 
 pub fn config<'a>(t: &Tables<'a>) -> Config<'a> {
     Config {
@@ -55,5 +56,25 @@ pub fn frame(frame: &[u8]) -> FrameAnswer {
         link: header.link,
         sequence: header.sequence,
         payload: policer::payload(frame).len(),
+    }
+}
+
+pub fn network(number: u8) -> policer::Network {
+    match number {
+        0 => policer::Network::A,
+        _ => policer::Network::B,
+    }
+}
+
+/// A frame as the judge takes it.
+pub fn judged(frame: &Arrival) -> judge::receive::Arrival {
+    judge::receive::Arrival {
+        link: frame.link,
+        network: match frame.network {
+            0 => judge::receive::Network::A,
+            _ => judge::receive::Network::B,
+        },
+        number: frame.number,
+        stamp: frame.stamp,
     }
 }

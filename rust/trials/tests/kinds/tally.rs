@@ -10,9 +10,12 @@ pub enum What {
     Write,
     Step,
     Frame,
+    Receive,
+    /// The receive calls of one link run again without the others' frames.
+    ReceiveAlone,
 }
 
-const WHAT: [(What, &str, &[usize]); 6] = [
+const WHAT: [(What, &str, &[usize]); 8] = [
     (
         What::FrameCall,
         "frame calls",
@@ -27,6 +30,12 @@ const WHAT: [(What, &str, &[usize]); 6] = [
     (What::Write, "writes", &[0, 23, 24, 26]),
     (What::Step, "steps", &[0, 1, 2, 8, 9, 10]),
     (What::Frame, "frame readings", &[0, 1, 2]),
+    (What::Receive, "receive calls", &[0, 4, 8, 30, 31]),
+    (
+        What::ReceiveAlone,
+        "isolated receive calls",
+        &[0, 8, 30, 31],
+    ),
 ];
 
 #[derive(Default)]

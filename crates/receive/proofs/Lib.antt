@@ -1,0 +1,4 @@
+pub mod Claims
+pub mod Judging
+pub mod Kept
+pub mod Words

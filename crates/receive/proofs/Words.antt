@@ -1,0 +1,83 @@
+-- Laws of records: words read and stored, rows in use. Assumes nothing.
+use Prim.Native.Nat.{ℕ, _+_, _*_, _/_, _≤_, _<_, min}
+use mathlib.Core.List.{List}
+use mathlib.Core.Path.{_≡_, refl}
+use native.Mathlib.Nat.{min-le-left, min-le-right, div-mul-le-self, mul-comm}
+use native.Mathlib.Omega.{arith}
+use lib.ListN.{length, getD, set, length-set}
+use lib.Seq.{getD-set-same, getD-set-other}
+use Rattle.receive.specs.declared.Network.{Network}
+use Rattle.receive.specs.declared.Network.the-variants.{A, B}
+use Rattle.receive.specs.Lent.{index, skewRowOctets, recordWords, rowsInUse, numberPlace, waitsPlace, word, store}
+
+-- ---- places lie in a record
+pub index-low : (x : Network) → index x < 2
+index-low A = omega arith
+index-low B = omega arith
+
+pub number-inside : (x : Network) (k : ℕ) → k ≡ numberPlace x → k < recordWords
+number-inside x k e = let i = index-low x in omega arith
+
+module _ (x : Network) (n k : ℕ) (e : k ≡ waitsPlace x n) (h : n < 256) where
+  pub waits-inside : k < recordWords
+  waits-inside = let i = index-low x in omega arith
+
+  pub delivered-inside : k + 1 < recordWords
+  delivered-inside = let i = index-low x in omega arith
+
+-- ---- one word
+pub word-is : (r : List ℕ) (j k : ℕ) → getD r (recordWords * j + k) 0 ≡ word r j k
+unfolding word
+word-is r j k = refl
+
+pub store-is : (r : List ℕ) (j k v : ℕ) → set r (recordWords * j + k) v ≡ store r j k v
+unfolding store
+store-is r j k v = refl
+
+pub length-store : (r : List ℕ) (j k v : ℕ) → length (store r j k v) ≡ length r
+unfolding store
+length-store r j k v = length-set r (recordWords * j + k) v
+
+-- ---- rows in use
+pub in-use-is : (octets words n : ℕ) → n ≡ min (octets / skewRowOctets) (words / recordWords) → n ≡ rowsInUse octets words
+unfolding rowsInUse
+in-use-is octets words n e = e
+
+-- so many lie in both runs
+module _ (octets words n : ℕ) (e : n ≡ rowsInUse octets words) where
+  pub rows-inside : skewRowOctets * n ≤ octets
+  unfolding rowsInUse
+  rows-inside =
+      let m = min-le-left (octets / skewRowOctets) (words / recordWords) in
+      let d : skewRowOctets * (octets / skewRowOctets) ≤ octets = rw (mul-comm skewRowOctets (octets / skewRowOctets)) (div-mul-le-self octets skewRowOctets) in
+      omega arith
+
+  pub records-inside : recordWords * n ≤ words
+  unfolding rowsInUse
+  records-inside =
+      let m = min-le-right (octets / skewRowOctets) (words / recordWords) in
+      let d : recordWords * (words / recordWords) ≤ words = rw (mul-comm recordWords (words / recordWords)) (div-mul-le-self words recordWords) in
+      omega arith
+
+-- ---- a word read where another was stored. In the same record
+pub word-same : (r : List ℕ) (j k v : ℕ) → recordWords * j + recordWords ≤ length r → k < recordWords → word (store r j k v) j k ≡ v
+unfolding word store
+word-same r j k v h l = getD-set-same r (recordWords * j + k) v 0 (omega arith)
+
+pub word-other : (r : List ℕ) (j k m v : ℕ) → (m ≡ k → ⊥) → word (store r j k v) j m ≡ word r j m
+unfolding word store
+word-other r j k m v d = getD-set-other r (recordWords * j + k) (recordWords * j + m) v 0 (λ e. d (omega arith))
+
+-- in another record
+pub word-beside : (r : List ℕ) (j k i m v : ℕ) → (i ≡ j → ⊥) → k < recordWords → m < recordWords → word (store r j k v) i m ≡ word r i m
+unfolding word store
+word-beside r j k i m v d h l = getD-set-other r (recordWords * j + k) (recordWords * i + m) v 0 (λ e. d (omega arith))
+
+-- outside the record
+pub outside-before : (r : List ℕ) (j k i v : ℕ) → i < recordWords * j → getD (store r j k v) i 0 ≡ getD r i 0
+unfolding store
+outside-before r j k i v h = getD-set-other r (recordWords * j + k) i v 0 (λ e. omega arith)
+
+pub outside-behind : (r : List ℕ) (j k i v : ℕ) → k < recordWords → recordWords * j + recordWords ≤ i → getD (store r j k v) i 0 ≡ getD r i 0
+unfolding store
+outside-behind r j k i v l h = getD-set-other r (recordWords * j + k) i v 0 (λ e. omega arith)

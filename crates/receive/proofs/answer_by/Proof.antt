@@ -1,0 +1,57 @@
+-- `answer_by`: from the words read; each place lies in the record. Assumes nothing.
+use Prim.Native.Nat.{_+_, _<_}
+use native.Mathlib.Omega.{arith}
+use Rattle.receive.specs.Lent.{recordWords}
+use Rattle.receive.proofs.Words.{number-inside, waits-inside, delivered-inside}
+use Rattle.receive.proofs.Judging.{answer-read}
+use borrow.Author.Needs.{needs}
+use Rattle.receive.proofs.answer_by.Statement.{statement}
+use Rattle.receive.proofs.answer_by.Tie as tie
+
+other-requires : tie.Need-other-requires
+other-requires c κs = search needs
+
+waits-place-requires : tie.Need-waits-place-requires
+waits-place-requires c κs = search needs
+
+word-requires : tie.Need-word-requires
+word-requires c κs = search needs
+
+number-place-requires : tie.Need-number-place-requires
+number-place-requires c κs = search needs
+
+word-requires-2 : tie.Need-word-requires-2
+word-requires-2 c κs = search (needs, number-inside)
+
+word-requires-3 : tie.Need-word-requires-3
+word-requires-3 c κs = search (needs, waits-inside)
+
+inside : (c : tie.After-word3) → c .before .before .before .before .waits-place .result + 1 < recordWords
+inside c = search (needs, delivered-inside)
+
+add-word : tie.Need-add-word
+add-word c = omega (arith, inside c)
+
+word-requires-4 : tie.Need-word-requires-4
+word-requires-4 c κs = search (needs, delivered-inside)
+
+judge-requires : tie.Need-judge-requires
+judge-requires c κs = search needs
+
+returns : tie.Need-returns
+returns c = search answer-read
+
+pub answer-by-spec : {M : Type 1} → statement M
+answer-by-spec =
+    tie.close
+    (tie.spec
+    other-requires
+    waits-place-requires
+    word-requires
+    number-place-requires
+    word-requires-2
+    word-requires-3
+    add-word
+    word-requires-4
+    judge-requires
+    returns)

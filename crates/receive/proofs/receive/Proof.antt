@@ -1,0 +1,66 @@
+-- `receive`: by the row found, of which row and record are lent whole. Assumes nothing.
+use Prim.Native.Nat.{_+_, _*_, _≤_}
+use native.Mathlib.Omega.{arith}
+use lib.ListN.{length}
+use Rattle.receive.specs.Lent.{skewRowOctets}
+use Rattle.receive.proofs.Words.{rows-inside}
+use Rattle.receive.proofs.Judging.{row-lent, record-lent, call-unknown, call-answered}
+use borrow.Author.Needs.{needs}
+use Rattle.receive.proofs.receive.Statement.{statement}
+use Rattle.receive.proofs.receive.Tie as tie
+
+rows-in-use-requires : tie.Need-rows-in-use-requires
+rows-in-use-requires c κs = search needs
+
+find-requires : tie.Need-find-requires
+find-requires c κs = search rows-inside
+
+enum-told : tie.Need-enum-told
+enum-told c = search needs
+
+enum-known-row : tie.Need-enum-known-row
+enum-known-row c = search needs
+
+lent : (c : tie.After-known-told) → skewRowOctets * (c .before .row .given .0 .0) + skewRowOctets ≤ length (c .before .before .before .before .before .before .before .args .rows .now)
+lent c = search row-lent
+
+mul-u32-at : tie.Need-mul-u32-at
+mul-u32-at c = omega (arith, lent c)
+
+add-u32-at : tie.Need-add-u32-at
+add-u32-at c = omega (arith, lent c)
+
+u32-at-requires : tie.Need-u32-at-requires
+u32-at-requires c κs = search needs
+
+answer-by-requires : tie.Need-answer-by-requires
+answer-by-requires c κs = search record-lent
+
+keep-requires : tie.Need-keep-requires
+keep-requires c κs = search record-lent
+
+returns : tie.Need-returns
+returns c = search call-unknown
+
+same-length : tie.Need-same-length
+same-length c = search needs
+
+returns-2 : tie.Need-returns-2
+returns-2 c = search call-answered
+
+pub receive-spec : {M : Type 1} → statement M
+receive-spec =
+    tie.close
+    (tie.spec
+    rows-in-use-requires
+    find-requires
+    enum-told
+    enum-known-row
+    mul-u32-at
+    add-u32-at
+    u32-at-requires
+    answer-by-requires
+    keep-requires
+    returns
+    same-length
+    returns-2)

@@ -1,0 +1,81 @@
+-- What holds of one call of the receiving end for any rows and records whatsoever (document 02, Q-1); proved in proofs/Claims.antt.
+use Prim.Native.Nat.{ℕ, _+_, _*_, _≤_, _<_}
+use mathlib.Core.List.{List, [], _∷_, List·Memᴰ}
+use mathlib.Core.Logic.{_⊎_, _↔_}
+use mathlib.Core.Option.{some}
+use mathlib.Core.Path.{_≡_}
+use lib.ListN.{length, getD}
+use Rattle.octets.specs.Numbers.{numberAt}
+use Rattle.tables.specs.declared.Found.the-variants.{At, Nowhere}
+use Rattle.receive.specs.declared.Arrival.{Arrival}
+use Rattle.receive.specs.declared.Reception.{Reception}
+use Rattle.receive.specs.declared.Reception.the-variants.{UnknownLink, Late}
+use Rattle.sequence.specs.Sequence.{numberCount}
+use Rattle.receive.specs.Lent.{skewRowOctets, skewIn, recordWords, rowsInUse, rowFound, word, lastStamp, lastNumber}
+use Rattle.receive.specs.Receive.{told, received}
+
+-- two answers with the same number are the same
+abbrev pub AnswersApart : Type 0
+AnswersApart = (a b : Reception) → told a ≡ told b → a ≡ b
+
+-- demand 1: delivered, copy, out of sequence, 4 and 8, and no other
+abbrev pub PossibleAnswers : Type 0
+PossibleAnswers = (rows r : List ℕ) (f : Arrival) → List·Memᴰ (told (received rows r f .says)) (0 ∷ 30 ∷ 31 ∷ 4 ∷ 8 ∷ [])
+
+-- demand 1: 4 and 8 change nothing
+abbrev pub RefusedKeeps : Type 0
+RefusedKeeps =
+    (rows r : List ℕ) (f : Arrival) → (told (received rows r f .says) ≡ 4) ⊎ (told (received rows r f .says) ≡ 8)
+    → received rows r f .records ≡ r
+
+-- 4 first: exactly where no row in use has the link's number
+abbrev pub UnknownExactly : Type 0
+UnknownExactly = (rows r : List ℕ) (f : Arrival) → (received rows r f .says ≡ UnknownLink) ↔ (rowFound rows (length r) (f .link) ≡ Nowhere)
+
+-- a row that is found is in use, has the number, and is the first that has it; where none is found, no row in use has it
+abbrev pub RowIsFirst : Type 0
+RowIsFirst =
+    (rows : List ℕ) (words link j : ℕ) → rowFound rows words link ≡ At j
+    → (j < rowsInUse (length rows) words)
+    × (numberAt 2 rows (skewRowOctets * j) ≡ link)
+    × ((i : ℕ) → i < j → numberAt 2 rows (skewRowOctets * i) ≡ link → ⊥)
+
+abbrev pub RowIsNowhere : Type 0
+RowIsNowhere =
+    (rows : List ℕ) (words link : ℕ) → rowFound rows words link ≡ Nowhere
+    → (j : ℕ) → j < rowsInUse (length rows) words → numberAt 2 rows (skewRowOctets * j) ≡ link → ⊥
+
+-- rows beyond those in use play no part
+abbrev pub RowsBeyondUnread : Type 0
+RowsBeyondUnread =
+    (rows : List ℕ) (words : ℕ) (rows′ : List ℕ) (words′ link : ℕ) → rowsInUse (length rows) words ≡ rowsInUse (length rows′) words′
+    → ((j : ℕ) → j < rowsInUse (length rows) words → numberAt 2 rows (skewRowOctets * j) ≡ numberAt 2 rows′ (skewRowOctets * j))
+    → rowFound rows words link ≡ rowFound rows′ words′ link
+
+-- ---- of a call whose link has row j: only record j may change
+pub record OnlyRecord (j : ℕ) (r s : List ℕ) : Type 0 where
+  pub long : length s ≡ length r
+  pub before : (i : ℕ) → i < recordWords * j → getD s i 0 ≡ getD r i 0
+  pub behind : (i : ℕ) → recordWords * j + recordWords ≤ i → getD s i 0 ≡ getD r i 0
+
+abbrev pub ChangesOwnRecord : Type 0
+ChangesOwnRecord =
+    (rows r : List ℕ) (f : Arrival) → f .number < numberCount → (j : ℕ) → rowFound rows (length r) (f .link) ≡ At j
+    → OnlyRecord j r (received rows r f .records)
+
+-- any answer but the refusals, out of sequence too, keeps the stamp, for both networks, and the number, for its own
+abbrev pub StampAndNumberKept : Type 0
+StampAndNumberKept =
+    (rows r : List ℕ) (f : Arrival) (j : ℕ) → rowFound rows (length r) (f .link) ≡ At j → (received rows r f .says ≡ Late → ⊥)
+    → (lastStamp (received rows r f .records) j ≡ f .stamp) × (lastNumber (received rows r f .records) j (f .network) ≡ some (f .number))
+
+-- nothing but the link's SkewMax and its record plays a part
+abbrev pub SameRecord : List ℕ → ℕ → List ℕ → ℕ → Type 0
+SameRecord r j s i = (k : ℕ) → k < recordWords → word r j k ≡ word s i k
+
+abbrev pub ByOwnRecord : Type 0
+ByOwnRecord =
+    (rows r : List ℕ) (j : ℕ) (rows′ r′ : List ℕ) (i : ℕ) (f : Arrival) → f .number < numberCount
+    → rowFound rows (length r) (f .link) ≡ At j → rowFound rows′ (length r′) (f .link) ≡ At i
+    → skewIn rows j ≡ skewIn rows′ i → SameRecord r j r′ i
+    → (received rows r f .says ≡ received rows′ r′ f .says) × SameRecord (received rows r f .records) j (received rows′ r′ f .records) i

@@ -1,0 +1,93 @@
+-- What a receiving end is lent (document 02, Q-1): a row for each link and, in a run of their own, a record for each row in use. The
+-- papers leave their form open; it is stated here.
+use Prim.Native.Nat.{ℕ, _+_, _*_, _/_, min}
+use mathlib.Core.List.{List}
+use mathlib.Core.Option.{Option, none, some}
+use lib.ListN.{length, getD, set}
+use lib.Dec.{eqb}
+use Rattle.octets.specs.Choice.{if_then_else_}
+use Rattle.octets.specs.Numbers.{numberAt}
+use Rattle.sequence.specs.Sequence.{numberOf}
+use Rattle.tables.specs.Rows.{tableOf, foundIn}
+use Rattle.tables.specs.declared.Found.{Found}
+use Rattle.receive.specs.declared.Arrival.{Arrival}
+use Rattle.receive.specs.declared.Network.{Network}
+use Rattle.receive.specs.declared.Network.the-variants.{A, B}
+
+-- ---- networks
+abbrev pub index : Network → ℕ
+index A = 0
+index B = 1
+
+abbrev pub other : Network → Network
+other A = B
+other B = A
+
+-- a frame that comes in: its link, its network, its sequence number, its stamp in us
+abbrev pub arrivalOf : ℕ → Network → ℕ → ℕ → Arrival
+arrivalOf link x n t = record { link = link; network = x; number = n; stamp = t }
+
+-- ---- rows: number (2), SkewMax in us (4)
+abbrev pub skewRowOctets : ℕ
+skewRowOctets = 6
+
+unfoldable pub skewIn : List ℕ → ℕ → ℕ
+skewIn rows j = numberAt 4 rows (skewRowOctets * j + 2)
+
+-- a record, in words of 64 bits: the link's last stamp, the last number on each network, and for each network and number two words,
+-- for the delivery that may await its copy; 3 + 2 × 256 × 2
+abbrev pub recordWords : ℕ
+recordWords = 1027
+
+-- rows in use: those of which row and record are lent whole
+unfoldable pub rowsInUse : ℕ → ℕ → ℕ
+rowsInUse octets words = min (octets / skewRowOctets) (words / recordWords)
+
+-- the row of a link: the first in use with its number. These rows begin with it, as the switch's rows of links do
+unfoldable pub rowFound : List ℕ → ℕ → ℕ → Found
+rowFound rows words link = foundIn (tableOf skewRowOctets rows) (rowsInUse (length rows) words) link
+
+-- ---- word k of record j, and that word stored
+unfoldable pub word : List ℕ → ℕ → ℕ → ℕ
+word r j k = getD r (recordWords * j + k) 0
+
+unfoldable pub store : List ℕ → ℕ → ℕ → ℕ → List ℕ
+store r j k v = set r (recordWords * j + k) v
+
+-- ---- a record's words. All are 0 in an empty record
+abbrev pub stampPlace : ℕ
+stampPlace = 0
+
+abbrev pub numberPlace : Network → ℕ
+numberPlace x = 1 + index x
+
+abbrev pub waitsPlace : Network → ℕ → ℕ
+waitsPlace x n = 3 + 512 * index x + 2 * n
+
+abbrev pub deliveredPlace : Network → ℕ → ℕ
+deliveredPlace x n = 4 + 512 * index x + 2 * n
+
+-- a delivery that awaits its copy has its first word other than 0; the second is its stamp
+unfoldable pub deliveryOf : ℕ → ℕ → Option ℕ
+deliveryOf waits stamp = if eqb waits 0 then none else some stamp
+
+-- ---- what record j says: the link's last stamp, the last number received on a network, the stamp of the delivery of n on a network
+-- that awaits its copy
+abbrev pub lastStamp : List ℕ → ℕ → ℕ
+lastStamp r j = word r j stampPlace
+
+abbrev pub lastNumber : List ℕ → ℕ → Network → Option ℕ
+lastNumber r j x = numberOf (word r j (numberPlace x))
+
+abbrev pub awaiting : List ℕ → ℕ → Network → ℕ → Option ℕ
+awaiting r j x n = deliveryOf (word r j (waitsPlace x n)) (word r j (deliveredPlace x n))
+
+-- ---- what is kept in it: stamp and number of a frame; that a delivery has met its copy; that a frame was delivered
+unfoldable pub noted : List ℕ → ℕ → Arrival → List ℕ
+noted r j f = store (store r j stampPlace (f .stamp)) j (numberPlace (f .network)) (f .number + 1)
+
+unfoldable pub met : List ℕ → ℕ → Network → ℕ → List ℕ
+met r j x n = store r j (waitsPlace x n) 0
+
+unfoldable pub delivered : List ℕ → ℕ → Arrival → List ℕ
+delivered r j f = store (store r j (waitsPlace (f .network) (f .number)) 1) j (deliveredPlace (f .network) (f .number)) (f .stamp)

@@ -1,0 +1,178 @@
+// The receiving end of a link on two networks: integrity by sequence number on each, then the first of two copies
+// delivered. Links come as rows and what is remembered of each as a record, both lent. The call is total.
+ghost use mathlib.Core.Path.{_≡_};
+ghost use Prim.Native.Nat.{_+_, _*_, _≤_};
+ghost use lib.ListN.{length};
+ghost use Rattle.sequence.specs.Sequence.{numberOf};
+ghost use Rattle.tables.specs.Rows.{tableOf, foundIn};
+ghost use Rattle.receive.specs.Lent.{other, skewRowOctets, rowsInUse, recordWords, deliveryOf};
+ghost use Rattle.receive.specs.Receive.{told, taken, inSkew, judged, answerBy, afterOf, received};
+
+mod records;
+
+use tables::Found;
+
+// Octets of a row: link number (2), SkewMax in microseconds (4).
+pub const ROW_OCTETS: usize = 6;
+
+// Words of a record; all are 0 where it is empty.
+pub const RECORD_WORDS: usize = 1027;
+
+pub enum Network {
+    A,
+    B,
+}
+
+// A frame that comes in; its stamp is in microseconds.
+pub struct Arrival {
+    pub link: u16,
+    pub network: Network,
+    pub number: u8,
+    pub stamp: u64,
+}
+
+// The answer: delivered, the copy of a frame that was, out of sequence, or a refusal, 4 or 8.
+pub enum Reception {
+    Delivered,
+    Copy,
+    OutOfSequence,
+    UnknownLink,
+    Late,
+}
+
+impl Reception {
+    // The number of an answer.
+    pub fn number(self) -> u8
+        ensures { λ r. ⌜ r ≡ told self ⌝ }
+    {
+        match self {
+            Reception::Delivered => 0,
+            Reception::UnknownLink => 4,
+            Reception::Late => 8,
+            Reception::Copy => 30,
+            Reception::OutOfSequence => 31,
+        }
+    }
+
+    // Whether the frame was received: all answers but the refusals.
+    fn taken(self) -> bool
+        ensures { λ r. ⌜ r ≡ taken self ⌝ }
+    {
+        match self {
+            Reception::Delivered => true,
+            Reception::Copy => true,
+            Reception::OutOfSequence => true,
+            Reception::UnknownLink => false,
+            Reception::Late => false,
+        }
+    }
+}
+
+fn other(network: Network) -> Network
+    ensures { λ r. ⌜ r ≡ other network ⌝ }
+{
+    match network {
+        Network::A => Network::B,
+        Network::B => Network::A,
+    }
+}
+
+// Rows in use: those of which row and record are lent whole.
+fn rows_in_use(octets: usize, words: usize) -> usize
+    ensures { λ r. ⌜ r ≡ rowsInUse octets words ⌝ }
+{
+    octets::least(octets / ROW_OCTETS, words / RECORD_WORDS)
+}
+
+// The first of so many rows that has the number.
+fn find(rows: &[u8], used: usize, link: u16) -> Found
+    requires { ⌜ skewRowOctets * used ≤ length (now rows) ⌝ }
+    ensures { λ r. ⌜ r ≡ foundIn (tableOf skewRowOctets (now (rows .entry))) used link ⌝ }
+{
+    let mut i = 0;
+    while i < used {
+        if octets::u16_at(rows, ROW_OCTETS * i) == link {
+            return Found::At(i);
+        }
+        i += 1;
+    }
+    Found::Nowhere
+}
+
+// Whether a delivery awaits its copy and is no more than SkewMax old at a stamp, nor stamped after it.
+fn in_skew(skew: u32, waits: u64, delivered: u64, stamp: u64) -> bool
+    ensures { λ r. ⌜ r ≡ inSkew skew (deliveryOf waits delivered) stamp ⌝ }
+{
+    if waits == 0 {
+        return false;
+    }
+    if stamp < delivered {
+        return false;
+    }
+    stamp - delivered <= skew as u64
+}
+
+// What is answered, from the words that a record has for a frame: the link's last stamp, the last number on the frame's
+// network, and the other network's delivery of its number.
+fn judge(
+    skew: u32,
+    last: u64,
+    held: u64,
+    waits: u64,
+    delivered: u64,
+    number: u8,
+    stamp: u64,
+) -> Reception
+    ensures { λ r. ⌜ r ≡ judged skew last (numberOf held) (deliveryOf waits delivered) number stamp ⌝ }
+{
+    if stamp < last {
+        return Reception::Late;
+    }
+    if !sequence::passes(held, number) {
+        return Reception::OutOfSequence;
+    }
+    if in_skew(skew, waits, delivered, stamp) {
+        return Reception::Copy;
+    }
+    Reception::Delivered
+}
+
+// The same by the record of a row.
+fn answer_by(skew: u32, records: &[u64], row: usize, frame: Arrival) -> Reception
+    requires { ⌜ recordWords * row + recordWords ≤ length (now records) ⌝ }
+    ensures { λ r. ⌜ r ≡ answerBy skew (now (records .entry)) row frame ⌝ }
+{
+    let network = frame.network;
+    let across = other(network);
+    let place = records::waits_place(across, frame.number);
+    let last = records::word(records, row, records::STAMP_PLACE);
+    let held = records::word(records, row, records::number_place(network));
+    let waits = records::word(records, row, place);
+    let delivered = records::word(records, row, place + 1);
+    judge(
+        skew,
+        last,
+        held,
+        waits,
+        delivered,
+        frame.number,
+        frame.stamp,
+    )
+}
+
+// A frame that comes in: its answer, with what that leaves stored in its link's record. Any rows and records get an
+// answer; those beyond the rows in use are neither read nor written.
+pub fn receive(frame: Arrival, rows: &[u8], records: &mut [u64]) -> Reception
+    ensures { λ r. ⌜ afterOf r (now (records .exit)) ≡ received (now (rows .entry)) (now (records .entry)) frame ⌝ }
+{
+    let used = rows_in_use(rows.len(), records.len());
+    match find(rows, used, frame.link) {
+        Found::Nowhere => Reception::UnknownLink,
+        Found::At(row) => {
+            let skew = octets::u32_at(rows, ROW_OCTETS * row + 2);
+            let answer = answer_by(skew, records, row, frame);
+            records::keep(records, row, frame, answer);
+            answer
+        }
+    }
+}

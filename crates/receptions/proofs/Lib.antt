@@ -1,0 +1,6 @@
+pub mod Claims
+pub mod Counts
+pub mod Isolation
+pub mod Meeting
+pub mod Memory
+pub mod Rule

@@ -1,0 +1,26 @@
+-- Sequence numbers and integrity (document 02, Q-1; ARINC 664P7, 3.2.6.1 and 3.2.6.2.1).
+use Prim.Native.Nat.{ℕ, _+_, _-_}
+use mathlib.Core.Bool.{Bool, true, _||_}
+use mathlib.Core.Option.{Option, none, some}
+use lib.Dec.{eqb}
+use Rattle.octets.specs.Choice.{if_then_else_}
+
+-- numbers are octets: so many, and the greatest
+abbrev pub numberCount : ℕ
+numberCount = 256
+
+abbrev pub greatestNumber : ℕ
+greatestNumber = 255
+
+-- one step on: numbers run 0, 1 to 255, then 1 again
+unfoldable pub next : ℕ → ℕ
+next n = if eqb n greatestNumber then 1 else n + 1
+
+-- whether number n passes behind the last one received on its network: the first, 0, and one or two steps on
+unfoldable pub passes : Option ℕ → ℕ → Bool
+passes none n = true
+passes (some p) n = eqb n 0 || eqb n (next p) || eqb n (next (next p))
+
+-- a last number as it is held in a word: with 1 added, 0 is none
+unfoldable pub numberOf : ℕ → Option ℕ
+numberOf w = if eqb w 0 then none else some (w - 1)
