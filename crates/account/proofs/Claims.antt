@@ -9,17 +9,17 @@ use native.Mathlib.Nat.{le-trans}
 use native.Mathlib.Omega.{arith}
 use lib.Dec.{eqb, lit≤}
 use Rattle.frame.specs.Frame.{lengthCode}
-use Rattle.frame.proofs.Frame.{by-length}
+use Rattle.frame.proofs.Frame.{within, by-length}
 use Rattle.account.specs.Terms.{inLimits, bag, charge, rate, capacity, cost}
 use Rattle.account.specs.Account.{termsOf, holding, valid, creditAt, costOf, toppedUp, debited}
 use Rattle.account.specs.Step.{Told, told}
 use Rattle.account.specs.Claims.{CapacityLargest, TermsLimits, ToldApart, StepAnswers, RefusedStepKeeps, ShortStepTopsUp}
-use Rattle.account.specs.Claims.{ForwardedStepTakesCost, StepIsTopUpAndDebit, Tells, RefusedStepTells, Rest, RefusedMethodsRest}
+use Rattle.account.specs.Claims.{ForwardedStepTakesCost, StepIsTopUpAndDebit, FullTopUp, StepBelowCapacity, Tells, RefusedStepTells, Rest, RefusedMethodsRest}
 use Rattle.account.specs.declared.Account.{Account}
 use Rattle.account.specs.declared.Outcome.{Outcome}
 use Rattle.account.specs.declared.Outcome.the-variants.{Forwarded, Short, Late, Refused}
-use Rattle.account.proofs.Limits.{limits, capacity-high}
-use Rattle.account.proofs.Methods.{valid-limits, valid-by, capacity-not, credit-at-high, top-up-invalid, top-up-late, top-up-valid}
+use Rattle.account.proofs.Limits.{limits, capacity-high, cost-low, cost-capacity}
+use Rattle.account.proofs.Methods.{valid-limits, valid-by, capacity-not, credit-at-high, brought-full, top-up-invalid, top-up-late, top-up-valid}
 use Rattle.account.proofs.Methods.{cost-refused, cost-invalid, cost-valid, debit-enough, debit-short}
 use Rattle.account.proofs.Step.{by-step}
 
@@ -123,6 +123,23 @@ step-is-top-up-and-debit a n t =
     (λ _ _ _. neither 8 0 9 (λ e. omega arith) (λ e. omega arith))
     (λ z v h l _. debit-short (topped a n t z v h) n _ (cost-is a n t z v h) l ∙ topped-up a n t z v h)
     (λ z v h l _. debit-enough (topped a n t z v h) n _ (cost-is a n t z v h) l ∙ topped-up a n t z v h)
+
+pub full-top-up : FullTopUp
+full-top-up a t v e h = sym (top-up-valid a t v h) ∙ sym (brought-full a t (holding a (a .credit) t) (capacity (termsOf a)) refl e refl)
+
+pub step-below-capacity : StepBelowCapacity
+step-below-capacity a n t s =
+    by-step a n t (λ q. (q .says .code ≡ 0) ⊎ (q .says .code ≡ 9) → q .account .credit < capacity (termsOf a))
+    (λ m. length-refuses n m (λ x. (x ≡ 0) ⊎ (x ≡ 9) → a .credit < capacity (termsOf a))
+    (neither 1 0 9 (λ e. omega arith) (λ e. omega arith))
+    (neither 2 0 9 (λ e. omega arith) (λ e. omega arith)))
+    (λ _ _. neither 10 0 9 (λ e. omega arith) (λ e. omega arith))
+    (λ _ _ _. neither 8 0 9 (λ e. omega arith) (λ e. omega arith))
+    (λ _ v _ l _. omega (arith, cost-capacity (termsOf a) (limits (termsOf a) (valid-limits a v)) n s))
+    (λ z v _ l _.
+    let w = within n z .0 in
+    let b = cost-low (termsOf a) (limits (termsOf a) (valid-limits a v)) n (omega arith) in
+    omega (arith, credit-at-high a t))
 
 -- a code that is none of 1, 2 and 10
 none-of : (x : ℕ) {P : Type 0} → (x ≡ 1 → ⊥) → (x ≡ 2 → ⊥) → (x ≡ 10 → ⊥) → (x ≡ 1) ⊎ ((x ≡ 2) ⊎ (x ≡ 10)) → P

@@ -78,7 +78,7 @@ bag-high k h = mul-le-mul-left shortestBag (pow-mono h)
 pub product-high : (x w : ℕ) → x ≤ largestFrame → w ≤ longestWindow → x * w ≤ largestProduct
 product-high x w h k = mul-le-mul h k
 
--- the charge of a frame's octets is at least these and at most the largest frame's
+-- the charge of a frame's octets is at least these and at most the largest frame's; more octets are charged no less
 pub charge-high : (p : Terms) (n : ℕ) → n ≤ largestFrame → charge p n ≤ largestFrame
 unfolding charge
 charge-high p n h = h
@@ -86,6 +86,10 @@ charge-high p n h = h
 charge-low : (p : Terms) (n : ℕ) → n ≤ charge p n
 unfolding charge
 charge-low p n = le-refl n
+
+charge-rises : (p : Terms) (n m : ℕ) → n ≤ m → charge p n ≤ charge p m
+unfolding charge
+charge-rises p n m h = h
 
 module _ (p : Terms) (l : Limits p) where
   pub rate-high : rate p ≤ largestFrame
@@ -103,6 +107,20 @@ module _ (p : Terms) (l : Limits p) where
       (λ e. simp e (charge-high p n h))
       (λ e. simp e (charge-high p (p .smax) (l .smax-high)))
 
+  charged-low : (n : ℕ) → 1 ≤ n → 1 ≤ charged p n
+  unfolding rate charged
+  charged-low n h =
+      split (eqb (p .mode) byteMode)
+      (λ e. simp e (le-trans h (charge-low p n)))
+      (λ e. simp e rate-low)
+
+  charged-rate : (n : ℕ) → n ≤ p .smax → charged p n ≤ rate p
+  unfolding rate charged
+  charged-rate n h =
+      split (eqb (p .mode) byteMode)
+      (λ e. simp e (charge-rises p n (p .smax) h))
+      (λ e. simp e (le-refl (charge p (p .smax))))
+
   pub window-high : bag (p .k) + p .jitter ≤ longestWindow
   window-high = let b = bag-high (p .k) (l .k-high) in let j = l .jitter-high in omega arith
 
@@ -110,17 +128,28 @@ module _ (p : Terms) (l : Limits p) where
   unfolding capacity
   capacity-high = product-high (rate p) (bag (p .k) + p .jitter) rate-high window-high
 
+  bag-low : 1 ≤ bag (p .k)
+  unfolding bag
+  bag-low = one-le-mul {a = shortestBag} {b = 2 ^ p .k} (omega arith) (one-le-pow (p .k) 2 (omega arith))
+
   pub capacity-low : 1 ≤ capacity p
-  unfolding capacity bag
-  capacity-low =
-      let b : 1 ≤ shortestBag * 2 ^ p .k = one-le-mul {a = shortestBag} {b = 2 ^ p .k} (omega arith) (one-le-pow (p .k) 2 (omega arith)) in
-      one-le-mul rate-low (omega arith)
+  unfolding capacity
+  capacity-low = let b = bag-low in one-le-mul rate-low (omega arith)
 
   pub cost-high : (n : ℕ) → n ≤ largestFrame → cost p n ≤ largestProduct
   unfolding cost
   cost-high n h =
       let b = bag-high (p .k) (l .k-high) in
       product-high (charged p n) (bag (p .k)) (charged-high n h) (omega arith)
+
+  -- a frame costs something, and one of at most Smax no more than a full account holds
+  pub cost-low : (n : ℕ) → 1 ≤ n → 1 ≤ cost p n
+  unfolding cost
+  cost-low n h = one-le-mul (charged-low n h) bag-low
+
+  pub cost-capacity : (n : ℕ) → n ≤ p .smax → cost p n ≤ capacity p
+  unfolding cost capacity
+  cost-capacity n h = mul-le-mul (charged-rate n h) (omega arith)
 
 -- ---- what is charged, by mode
 pub charged-bytes : (p : Terms) (n : ℕ) → p .mode ≡ byteMode → n ≡ charged p n

@@ -5,7 +5,7 @@ use mathlib.Core.Path.{_≡_, sym, ap, ap₂, _∙_}
 use native.Mathlib.Nat.{min-le-left}
 use native.Mathlib.Omega.{arith}
 use lib.Dec.{leb}
-use borrow.Author.Tests.{le-leb, lt-leb, eq-eqb, ne-eqb, not-true, not-false}
+use borrow.Author.Tests.{leb-true, le-leb, lt-leb, eq-eqb, ne-eqb, not-true, not-false}
 use Rattle.octets.proofs.Tests.{split, both}
 use Rattle.frame.specs.Frame.{lengthCode}
 use Rattle.account.specs.Terms.{inLimits, rate, capacity, cost}
@@ -13,11 +13,18 @@ use Rattle.account.specs.Account.{termsOf, holding, valid, creditAt, cap
 use Rattle.account.specs.declared.Account.{Account}
 use Rattle.account.proofs.Limits.{limits, capacity-low}
 
+capped : (full credit gain : ℕ) → credit ≡ full → credit ≡ min full (credit + gain)
+capped full credit gain e = omega arith
+
 module _ (a : Account) where
   -- ---- a valid account
   pub valid-limits : valid a ≡ true → inLimits (termsOf a) ≡ true
   unfolding valid
   valid-limits e = both (inLimits (termsOf a)) (leb (a .credit) (capacity (termsOf a))) e .0
+
+  pub valid-credit : valid a ≡ true → a .credit ≤ capacity (termsOf a)
+  unfolding valid
+  valid-credit e = leb-true _ _ (both (inLimits (termsOf a)) (leb (a .credit) (capacity (termsOf a))) e .1)
 
   pub valid-by : inLimits (termsOf a) ≡ true → a .credit ≤ capacity (termsOf a) → valid a ≡ true
   unfolding valid
@@ -68,17 +75,32 @@ module _ (a : Account) where
     pub some-capacity : (c ≡ 0 → ⊥) → c ≡ capacity (termsOf a)
     some-capacity h = e ∙ sym (capacity-is (some-valid h))
 
+    pub some-room : (c ≡ 0 → ⊥) → a .credit ≤ c
+    some-room h = rw (some-capacity h) (valid-credit (some-valid h))
+
   -- ---- the topped-up credit, of a capacity and a rate
   pub credit-at : (t c r w : ℕ) → c ≡ capacity (termsOf a) → r ≡ rate (termsOf a) → w ≡ min c (a .credit + r * (t - a .last)) → w ≡ creditAt a t
   unfolding creditAt
   credit-at t c r w p q e = e ∙ ap₂ (λ (x y : ℕ). min x (a .credit + y * (t - a .last))) p q
 
+  -- a credit at the capacity stays, however long the time
+  pub credit-at-full : (t : ℕ) → a .credit ≡ capacity (termsOf a) → a .credit ≡ creditAt a t
+  unfolding creditAt
+  credit-at-full t e = capped (capacity (termsOf a)) (a .credit) (rate (termsOf a) * (t - a .last)) e
+
   pub credit-at-high : (t : ℕ) → creditAt a t ≤ capacity (termsOf a)
   unfolding creditAt
   credit-at-high t = min-le-left _ _
 
-  -- ---- top-up
+  -- ---- top-up: b is the account that is given
   module _ (t : ℕ) where
+    module _ (b : Account) where
+      pub brought-full : (c : ℕ) → c ≡ capacity (termsOf a) → a .credit ≡ c → b ≡ holding a (a .credit) t → b ≡ holding a (creditAt a t) t
+      brought-full c p e f = f ∙ ap (λ (x : ℕ). holding a x t) (credit-at-full t (e ∙ p))
+
+      pub brought-refilled : (w : ℕ) → w ≡ creditAt a t → b ≡ holding a w t → b ≡ holding a (creditAt a t) t
+      brought-refilled w e f = f ∙ ap (λ (x : ℕ). holding a x t) e
+
     pub top-up-invalid : valid a ≡ false → a ≡ toppedUp a t
     unfolding toppedUp
     top-up-invalid v = simp v

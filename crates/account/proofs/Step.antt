@@ -28,15 +28,15 @@ module _ (a : Account) (n t : ℕ) where
       unfolding policed
       police-late h = simp (eq-eqb _ _ z, v, lt-ltb _ _ h)
 
-      -- a frame that reaches the account: c is the topped-up credit, x the cost, b the account that is given
-      module _ (h : a .last ≤ t) (c x : ℕ) (p : c ≡ creditAt a t) (q : x ≡ cost (termsOf a) n) (b : Account) where
-        pub police-short : c < x → b ≡ holding a c t → stepped (Short c) b ≡ policed a n t
+      -- a frame that reaches the account: b is the account brought to the frame's time, x the cost, d the account that is given
+      module _ (h : a .last ≤ t) (b : Account) (p : b ≡ holding a (creditAt a t) t) (x : ℕ) (q : x ≡ cost (termsOf a) n) where
+        pub police-short : b .credit < x → stepped (Short (b .credit)) b ≡ policed a n t
         unfolding policed judged
-        police-short l e = simp (eq-eqb _ _ z, v, le-ltb _ _ h, ← p, ← q, lt-leb _ _ l, e)
+        police-short l = simp (eq-eqb _ _ z, v, le-ltb _ _ h, ← q, p, lt-leb x (creditAt a t) (rw p at l))
 
-        pub police-forwarded : x ≤ c → b ≡ holding a (c - x) t → stepped (Forwarded (c - x)) b ≡ policed a n t
+        pub police-forwarded : (d : Account) → x ≤ b .credit → d ≡ holding a (b .credit - x) t → stepped (Forwarded (b .credit - x)) d ≡ policed a n t
         unfolding policed judged
-        police-forwarded l e = simp (eq-eqb _ _ z, v, le-ltb _ _ h, ← p, ← q, le-leb _ _ l, e)
+        police-forwarded d l e = simp (eq-eqb _ _ z, v, le-ltb _ _ h, ← q, e, p, le-leb x (creditAt a t) (rw p at l))
 
   -- by cases: what holds of each answer, and of the step where it is that answer
   pub by-step : (P : Stepped → Type 0)
@@ -56,8 +56,8 @@ module _ (a : Account) (n t : ℕ) where
       (λ l. rw (← police-late z v (ltb-true _ _ l)) (h z v (ltb-true _ _ l)))
       (λ l. let k = ltb-false _ _ l in
       split (leb (cost (termsOf a) n) (creditAt a t))
-      (λ m. rw (← police-forwarded z v k _ _ refl refl _ (leb-true _ _ m) refl) (j z v k (leb-true _ _ m)))
-      (λ m. rw (← police-short z v k _ _ refl refl _ (leb-false _ _ m) refl) (i z v k (leb-false _ _ m)))))
+      (λ m. rw (← police-forwarded z v k _ refl _ refl _ (leb-true _ _ m) refl) (j z v k (leb-true _ _ m)))
+      (λ m. rw (← police-short z v k _ refl _ refl (leb-false _ _ m)) (i z v k (leb-false _ _ m)))))
       (λ v. rw (← police-invalid z v) (g z v)))
       (λ e. let m = eqb-false _ _ e in rw (← police-length (lengthCode n) refl m) (f m))
 

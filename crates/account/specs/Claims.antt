@@ -73,6 +73,18 @@ StepIsTopUpAndDebit =
     (a : Account) (n t : ℕ) → (policed a n t .says .code ≡ 0) ⊎ (policed a n t .says .code ≡ 9)
     → policed a n t .account ≡ debited (toppedUp a t) n
 
+-- a top-up of a valid account at capacity, at a time not before its last, stores the time alone (document 02, Q-2)
+abbrev pub FullTopUp : Type 0
+FullTopUp =
+    (a : Account) (t : ℕ) → valid a ≡ true → a .credit ≡ capacity (termsOf a) → a .last ≤ t
+    → toppedUp a t ≡ holding a (a .credit) t
+
+-- a step of at most Smax octets, as every frame call's is, leaves less than the capacity where it answers 0 or 9
+abbrev pub StepBelowCapacity : Type 0
+StepBelowCapacity =
+    (a : Account) (n t : ℕ) → n ≤ a .smax → (policed a n t .says .code ≡ 0) ⊎ (policed a n t .says .code ≡ 9)
+    → policed a n t .account .credit < capacity (termsOf a)
+
 -- 8 tells the credit held, of a time before the last; 1, 2 and 10 tell no credit
 abbrev pub Tells : Account → ℕ → Told → Type 0
 Tells a t w =

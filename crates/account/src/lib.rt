@@ -145,6 +145,19 @@ impl Account {
         self
     }
 
+    // The account brought to a time that is not before the last; `full` is its capacity. An account at capacity has no
+    // room for a refill: the time alone is stored.
+    fn brought_to(self, full: u32, time: u64) -> Account
+        requires { ⌜ full ≡ capacity (termsOf self) ⌝ ∗ ⌜ self .credit ≤ full ⌝ ∗ ⌜ self .last ≤ time ⌝ }
+        ensures { λ r. ⌜ r ≡ holding self (creditAt self time) time ⌝ }
+    {
+        let room = full - self.credit;
+        if room == 0 {
+            return self.holding(self.credit, time);
+        }
+        self.holding(self.credit_at(full, time), time)
+    }
+
     // The capacity; 0 where the policing step refuses the account. A sound account has 64 x 1,000 or more, so 0 always
     // means refused.
     pub fn capacity(self) -> u32
@@ -177,15 +190,15 @@ impl Account {
     pub fn top_up(self, time: u64) -> Account
         ensures { λ r. ⌜ r ≡ toppedUp self time ⌝ }
     {
-        let capacity = self.capacity();
-        if capacity == 0 {
+        let full = self.capacity();
+        if full == 0 {
             return self;
         }
         let last = self.last;
         if time < last {
             return self;
         }
-        self.holding(self.credit_at(capacity, time), time)
+        self.brought_to(full, time)
     }
 
     // The account less a frame's cost; unchanged where the credit is short.
@@ -223,12 +236,13 @@ impl Account {
                 account: self,
             };
         }
-        let held = self.credit_at(capacity, time);
+        let topped = self.brought_to(capacity, time);
+        let held = topped.credit;
         let cost = self.frame_cost(octets);
         if held < cost {
             return Policed {
                 outcome: Outcome::Short(held),
-                account: self.holding(held, time),
+                account: topped,
             };
         }
         let left = held - cost;

@@ -6,7 +6,7 @@ use mathlib.Core.Path.{_≡_, refl, sym, ap, _∙_}
 use native.Mathlib.Omega.{arith}
 use lib.ListN.{length}
 use lib.Dec.{ltb, eqb}
-use borrow.Author.Tests.{lt-ltb, le-ltb, eq-eqb, ne-eqb, eqb-true, eqb-false, not-true, not-false}
+use borrow.Author.Tests.{lt-ltb, le-ltb, ltb-false, eq-eqb, ne-eqb, eqb-true, eqb-false, not-true, not-false}
 use Rattle.octets.proofs.Tests.{split}
 use Rattle.frame.specs.Frame.{lengthCode, constantField, linkNumber}
 use Rattle.frame.proofs.Frame.{by-length}
@@ -98,6 +98,18 @@ module _ (l : Link) (n port : ℕ) where
       (λ d. simp (e, d) (omega arith))
       (λ d. split (ltb (l .largest) n) (λ c. simp (e, d, c) (omega arith)) (λ c. simp (e, d, c) (omega arith))))
       (λ e. simp e (omega arith))
+
+  -- what 0 says of the largest size
+  pub passed-largest : portCode l n port ≡ 0 → n ≤ l .largest
+  unfolding portCode
+  passed-largest z =
+      split (ltb (l .largest) n)
+      (λ c. split (eqb port (l .port))
+      (λ e. split (ltb n (l .smallest))
+      (λ d. absurd (omega (arith, simp (e, d, c) at z)))
+      (λ d. absurd (omega (arith, simp (e, d, c) at z))))
+      (λ e. absurd (omega (arith, simp (e, c) at z))))
+      (λ c. ltb-false _ _ c)
 
 -- ---- the route, by the link that the number leads to
 abbrev routeBy : Sought → Route

@@ -198,6 +198,68 @@ fn unsound() {
     );
 }
 
+// A top-up of an account whose last time is 500.
+fn top_up_from_500(mut a: Account, time: u64) {
+    a.last = 500;
+    let b = a.top_up(time);
+    say::text(b"top up");
+    say::two(a.credit as u64, time);
+    say::arrow();
+    say::two(b.credit as u64, b.last);
+    say::end();
+}
+
+// The account of image P with a credit, a microsecond before its last time, at it, one after it and at the last of all.
+fn around_500(credit: u32) {
+    let a = account_of(200, 0, 500, 0, credit);
+    top_up_from_500(a, 499);
+    top_up_from_500(a, 500);
+    top_up_from_500(a, 501);
+    top_up_from_500(a, LAST_TIME);
+}
+
+// The largest account with a unit less than its capacity.
+fn unit_short() -> Account {
+    account_of(1518, 7, 10000, 0, 209483999)
+}
+
+// The capacity of image P's account is 300000: at it, and a unit to either side; then the largest account.
+fn capacities() {
+    say::text(b"# top up at capacity: credit time -> credit last\n");
+    around_500(300000);
+    around_500(299999);
+    around_500(300001);
+    top_up_from_500(largest(), 501);
+    top_up_from_500(unit_short(), 500);
+    top_up_from_500(unit_short(), 501);
+}
+
+// Unsound values, and as credit what the formula of the capacity gives of them.
+fn unsound_capacities() {
+    say::text(b"# top up, unsound at capacity: credit time -> credit last\n");
+    top_up_from_500(account_of(0, 0, 500, 0, 0), 501);
+    top_up_from_500(account_of(63, 0, 500, 0, 94500), 501);
+    top_up_from_500(account_of(1519, 0, 500, 0, 2278500), 501);
+    top_up_from_500(account_of(200, 8, 500, 0, 51300000), 501);
+    top_up_from_500(account_of(200, 0, 10001, 0, 2200200), 501);
+    top_up_from_500(account_of(200, 0, 500, 2, 300000), 501);
+}
+
+// Steps on full accounts; one of 300 octets costs all that image P's account can hold, one of 301 a thousand more. Then a
+// unit less, and Smax 0.
+fn full_steps() {
+    say::text(b"# steps at capacity\n");
+    let a = step(image_p(0), 301, 700);
+    let b = step(a, 300, 699);
+    let c = step(b, 300, 700);
+    step(c, 64, 1020);
+    step(image_p(0), 300, LAST_TIME);
+    step(image_p(1), 1518, 1);
+    let d = step(account_of(200, 0, 500, 0, 299999), 300, 0);
+    step(d, 300, 1);
+    step(account_of(0, 0, 500, 0, 0), 64, 1);
+}
+
 // The methods by themselves.
 fn methods() {
     say::text(b"# methods\n");
@@ -213,4 +275,7 @@ pub(crate) fn run() {
     limits();
     order();
     methods();
+    capacities();
+    unsound_capacities();
+    full_steps();
 }

@@ -1,6 +1,6 @@
 -- Laws of the frame call, case by case as the code goes. Assumes nothing.
 use Prim.Native.Nat.{ℕ, _+_, _-_, _*_, _/_, _≤_, _<_, min}
-use mathlib.Core.Bool.{Bool, true, false, not}
+use mathlib.Core.Bool.{Bool, true, false, not, _&&_}
 use mathlib.Core.List.{List}
 use mathlib.Core.Path.{_≡_, refl, sym, ap, _∙_}
 use native.Mathlib.Nat.{zero-add, mul-comm, div-mul-le-self}
@@ -84,6 +84,11 @@ module _ (l : Link) (used : ℕ) (a : Account) (n port t : ℕ) (r : Bool) (e : 
           → _≡_ {A = Decided} (record { says = w; credit = q .account .credit; last = q .account .last }) (decided l used a n port t)
       unfolding decided
       decided-step m q w u v = simp (v, u, ← e, not-false r h, some-valid a c f z, eq-eqb (portCode l n port) 0 (sym p ∙ m))
+
+-- of an unsound link or an invalid account
+pub decided-unsound : (l : Link) (used : ℕ) (a : Account) (n port t : ℕ) → (linkSound l used (a .smax) && valid a) ≡ false → decided l used a n port t ≡ kept 10 a
+unfolding decided
+decided-unsound l used a n port t e = simp e
 
 -- of a sound link and a valid account
 module _ (l : Link) (used : ℕ) (a : Account) (n port t : ℕ) (e : linkSound l used (a .smax) ≡ true) (v : valid a ≡ true) where

@@ -2,9 +2,10 @@
 use Prim.Native.Nat.{ℕ, _-_, _≤_, _<_}
 use mathlib.Core.Bool.{Bool, true, false, not, cond, _&&_, false≢true}
 use mathlib.Core.List.{List, [], _∷_}
-use mathlib.Core.Logic.{_⊎_, inl, inr}
+use mathlib.Core.Logic.{_⊎_, inl, inr, ⊎-elim}
 use mathlib.Core.Option.{Option, none, some}
 use mathlib.Core.Path.{_≡_, refl, sym, ap, _∙_, subst}
+use native.Mathlib.Nat.{le-trans}
 use native.Mathlib.Omega.{arith}
 use lib.ListN.{length}
 use lib.Dec.{ltb, eqb}
@@ -12,28 +13,29 @@ use borrow.Author.Tests.{lt-ltb, le-ltb, ltb-true, ltb-false, eqb-true, eqb-fals
 use Rattle.octets.proofs.Tests.{split, both}
 use Rattle.frame.specs.Frame.{lengthCode, constantField, linkNumber}
 use Rattle.frame.proofs.Frame.{by-length}
-use Rattle.account.specs.Terms.{cost}
+use Rattle.account.specs.Terms.{capacity, cost}
 use Rattle.account.specs.Account.{termsOf, holding, valid, creditAt}
 use Rattle.account.specs.Step.{stepped, policed}
 use Rattle.account.specs.declared.Account.{Account}
 use Rattle.account.specs.declared.Outcome.the-variants as outcome
 use Rattle.account.proofs.Step.{by-step}
+use Rattle.account.proofs.Claims.{step-below-capacity}
 use Rattle.tables.specs.Rows.{Config, linkTable, linkIn, linksInUse, foundIn, found}
 use Rattle.tables.specs.Rules.{portCount, linkSound}
 use Rattle.tables.specs.declared.Found.{Found}
 use Rattle.tables.specs.declared.Found.the-variants.{At, Nowhere}
 use Rattle.tables.specs.declared.Link.{Link}
 use Rattle.tables.proofs.Claims.{first-found, found-same}
-use Rattle.tables.proofs.Rules.{account-past, sound-port}
+use Rattle.tables.proofs.Rules.{account-past, sound-port, sound-largest}
 use Rattle.switch.specs.declared.Verdict.{Verdict}
 use Rattle.switch.specs.declared.Verdict.the-variants.{Forwarded, Short, Late, Refused}
 use Rattle.switch.specs.Verdict.{Told, tells, told}
 use Rattle.filter.specs.Filter.{frameCode, portCode}
 use Rattle.switch.specs.Call.{State, Call, After, accountsInUse, accountHeld, Decided, kept, stepOn, decided, stored, refusedWith, onLink, called}
 use Rattle.switch.specs.Claims.{VerdictsApart, CallAnswers, RefusedCallKeeps, LengthAlone, Line, line, firstFit, linkLines, rowLines, codeTable, CodesInOrder}
-use Rattle.switch.specs.Claims.{Effects, RowEffects, CallEffects, PortsBeyond, SameInUse, RowsBeyondUnread}
-use Rattle.filter.proofs.Filter.{frame-length, frame-constant, frame-passes, frame-code-high, frame-zero, port-other, port-small, port-large, port-passes, port-code-high}
-use Rattle.switch.proofs.Call.{held-again, decided-refused, decided-policed, onRow, call-refused, call-row}
+use Rattle.switch.specs.Claims.{Effects, RowEffects, CallEffects, StoredBelowCapacity, PortsBeyond, SameInUse, RowsBeyondUnread}
+use Rattle.filter.proofs.Filter.{frame-length, frame-constant, frame-passes, frame-code-high, frame-zero, port-other, port-small, port-large, port-passes, port-code-high, passed-largest}
+use Rattle.switch.proofs.Call.{held-again, decided-unsound, decided-refused, decided-policed, onRow, call-refused, call-row}
 
 -- ---- a verdict, from what it tells
 heard : Told → Verdict
@@ -57,10 +59,6 @@ verdicts-apart v w e = sym (heard-told v) ∙ ap heard e ∙ heard-told w
 
 -- ---- by cases of what is decided for a link and its account, the frame having the size of a frame
 module _ (l : Link) (used : ℕ) (a : Account) (n port t : ℕ) (z : lengthCode n ≡ 0) where
-  unsound : (linkSound l used (a .smax) && valid a) ≡ false → decided l used a n port t ≡ kept 10 a
-  unfolding decided
-  unsound e = simp e
-
   refused-port : (linkSound l used (a .smax) && valid a) ≡ true → (portCode l n port ≡ 0 → ⊥) → decided l used a n port t ≡ kept (portCode l n port) a
   refused-port e h =
       let b = both (linkSound l used (a .smax)) (valid a) e in decided-refused l used a n port t (b .0) (b .1) h
@@ -91,7 +89,7 @@ module _ (l : Link) (used : ℕ) (a : Account) (n port t : ℕ) (z : lengthCode 
       (λ _ _. i e k)
       (λ _ _. j e k)))
       (λ m. let k = eqb-false _ _ m in subst P (sym (refused-port e k)) (g e k)))
-      (λ e. subst P (sym (unsound e)) (f e))
+      (λ e. subst P (sym (decided-unsound l used a n port t e)) (f e))
     where
       and-not : (x y : Bool) → (x && y) ≡ true → y ≡ false → ⊥
       and-not x y e v = false≢true (sym v ∙ both x y e .1)
@@ -284,6 +282,28 @@ kept-by g s f (At j) r e z n = e .kept z n
 
 pub refused-call-keeps : RefusedCallKeeps
 refused-call-keeps g s f = kept-by g s f (found (g .links) (g .linkCount) (linkNumber (f .octets))) (called g s f) (call-effects g s f)
+
+-- ---- what a call stores is less than the capacity
+neither : (x : ℕ) {P : Type 0} → (x ≡ 0 → ⊥) → x ≤ 7 ⊎ (x ≡ 10) → (x ≡ 0) ⊎ (x ≡ 9) → P
+neither x d h e = absurd (⊎-elim d (λ q. ⊎-elim (λ l. omega arith) (λ l. omega arith) h) e)
+
+abbrev Below : Account → Decided → Type 0
+Below a d = (d .says .code ≡ 0) ⊎ (d .says .code ≡ 9) → d .credit < capacity (termsOf a)
+
+pub stored-below-capacity : StoredBelowCapacity
+stored-below-capacity l used a n port t =
+    split (linkSound l used (a .smax) && valid a)
+    (λ e.
+    let b = both (linkSound l used (a .smax)) (valid a) e in
+    split (eqb (portCode l n port) 0)
+    (λ m.
+    let k = eqb-true _ _ m in
+    subst (Below a) (sym (decided-policed l used a n port t (b .0) (b .1) k))
+    (step-below-capacity a n t (le-trans (passed-largest l n port k) (sound-largest l used (a .smax) (b .0)))))
+    (λ m.
+    let k = eqb-false _ _ m in
+    subst (Below a) (sym (decided-refused l used a n port t (b .0) (b .1) k)) (neither (portCode l n port) k (inl (port-code-high l n port)))))
+    (λ e. subst (Below a) (sym (decided-unsound l used a n port t e)) (neither 10 (λ q. omega arith) (inr refl)))
 
 -- ---- ports that no switch has
 other-port : (l : Link) (used smax n port : ℕ) → linkSound l used smax ≡ true → portCount ≤ port → portCode l n port ≡ 5

@@ -11,7 +11,7 @@ use lib.Dec.{ltb, eqb}
 use Rattle.octets.specs.Choice.{if_then_else_}
 use Rattle.frame.specs.Limits.{smallestFrame, largestFrame}
 use Rattle.frame.specs.Frame.{lengthCode, constantField, linkNumber}
-use Rattle.account.specs.Terms.{cost}
+use Rattle.account.specs.Terms.{capacity, cost}
 use Rattle.account.specs.Account.{termsOf, valid, creditAt}
 use Rattle.account.specs.declared.Account.{Account}
 use Rattle.tables.specs.Rows.{Config, linkTable, linkIn, linksInUse, found}
@@ -21,7 +21,7 @@ use Rattle.tables.specs.declared.Found.the-variants.{At, Nowhere}
 use Rattle.tables.specs.declared.Link.{Link}
 use Rattle.switch.specs.declared.Verdict.{Verdict}
 use Rattle.switch.specs.Verdict.{tells, told}
-use Rattle.switch.specs.Call.{State, stateOf, Call, After, accountsInUse, accountHeld, refusedWith, called}
+use Rattle.switch.specs.Call.{State, stateOf, Call, After, accountsInUse, accountHeld, decided, refusedWith, called}
 
 -- two verdicts that tell the same are the same
 abbrev pub VerdictsApart : Type 0
@@ -107,6 +107,13 @@ RowEffects g s f (At j) r = Effects s f (linkIn (linkTable (g .links)) j) (accou
 
 abbrev pub CallEffects : Type 0
 CallEffects = (g : Config) (s : State) (f : Call) → RowEffects g s f (found (g .links) (g .linkCount) (linkNumber (f .octets))) (called g s f)
+
+-- what is stored with 0 and with 9 is less than the capacity, whatever the tables: no frame call leaves the account that it reaches full
+abbrev pub StoredBelowCapacity : Type 0
+StoredBelowCapacity =
+    (l : Link) (used : ℕ) (a : Account) (n port t : ℕ)
+    → (decided l used a n port t .says .code ≡ 0) ⊎ (decided l used a n port t .says .code ≡ 9)
+    → decided l used a n port t .credit < capacity (termsOf a)
 
 -- a port that no switch has gets no further than 5
 abbrev pub PortsBeyond : Type 0

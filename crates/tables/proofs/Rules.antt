@@ -3,7 +3,7 @@ use Prim.Native.Nat.{ℕ, min, _+_, _*_, _-_, _/_, _%_, _^_, _≤_, _<_}
 use mathlib.Core.Bool.{Bool, true, false, not, _&&_}
 use mathlib.Core.Path.{_≡_, sym, ap, ap₂, _∙_}
 use lib.Dec.{ltb, leb, eqb}
-use borrow.Author.Tests.{lt-ltb, le-ltb, ltb-true, ltb-false, le-leb, lt-leb, eq-eqb, ne-eqb, not-true, not-false}
+use borrow.Author.Tests.{lt-ltb, le-ltb, ltb-true, ltb-false, leb-true, le-leb, lt-leb, eq-eqb, ne-eqb, not-true, not-false}
 use Rattle.octets.proofs.Tests.{split, both}
 use Rattle.frame.specs.Limits.{smallestFrame}
 use lib.ListN.{length}
@@ -69,6 +69,12 @@ module _ (l : Link) (n smax : ℕ) where
   sound-port e =
       let p = both (ltb (l .account) n) (portsSound (l .port) (l .mask)) (both _ (sizesSound (l .smallest) (l .largest) smax) e .0) .1 in
       ltb-true _ _ (both (ltb (l .port) portCount) _ (both _ (eqb (l .mask / 2 ^ l .port % 2) 0) p .0) .0)
+
+  pub sound-largest : linkSound l n smax ≡ true → l .largest ≤ smax
+  unfolding linkSound sizesSound
+  sound-largest e =
+      leb-true _ _
+      (both (leb smallestFrame (l .smallest) && leb (l .smallest) (l .largest)) (leb (l .largest) smax) (both (ltb (l .account) n && portsSound (l .port) (l .mask)) (sizesSound (l .smallest) (l .largest) smax) e .1) .1)
 
 -- ---- rows with the same values
 pub account-good-same : (a b : Rows) (i j : ℕ) → accountIn a i ≡ accountIn b j → accountGood a i ≡ accountGood b j

@@ -1,7 +1,7 @@
 //! Loading the longest image.
 
-use crate::frames::plan;
 use crate::rounds::{compare, timed};
+use crate::work::plan;
 use std::hint::black_box;
 
 const LOADS: usize = 2_000;

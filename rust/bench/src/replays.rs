@@ -1,8 +1,8 @@
 //! The replay program against the Rust version's, each as a process of its own that reads a log of a million frames and
 //! writes to /dev/null.
 
-use crate::frames::{calls, plan};
 use crate::rounds::{compare, timed};
+use crate::work::{calls, plan, Standing};
 use std::fs::{self, File};
 use std::io::{self, BufWriter, Write};
 use std::path::{Path, PathBuf};
@@ -33,7 +33,7 @@ fn write_rig(folder: &Path, octets: usize) -> io::Result<()> {
         .map(|l| plan.frame(l.number, octets, &[0x55]))
         .collect();
     let mut record = vec![];
-    for c in calls(LINKS) {
+    for c in calls(LINKS, Standing::Busy) {
         record.clear();
         put_record(
             &mut record,

@@ -1,5 +1,6 @@
 //! Rounds of two contenders, their medians and the ratio.
 
+use crate::work::SHARES;
 use std::time::Instant;
 
 /// An odd number of rounds, so that the median is one of them; many, since a round of frame calls is some 13 ms and the
@@ -13,9 +14,20 @@ pub fn timed<T>(work: impl FnOnce() -> T) -> (f64, T) {
     (start.elapsed().as_secs_f64(), given)
 }
 
-fn median(mut seconds: Vec<f64>) -> f64 {
-    seconds.sort_by(f64::total_cmp);
-    seconds[seconds.len() / 2]
+pub fn median(mut values: Vec<f64>) -> f64 {
+    values.sort_by(f64::total_cmp);
+    values[values.len() / 2]
+}
+
+/// A round of each, the first in front or behind.
+pub fn in_turn<T>(in_front: bool, first: impl FnOnce() -> T, second: impl FnOnce() -> T) -> (T, T) {
+    if in_front {
+        let a = first();
+        (a, second())
+    } else {
+        let b = second();
+        (first(), b)
+    }
 }
 
 /// What is measured, and what is cleared between rounds.
@@ -23,7 +35,9 @@ pub fn print_heading() {
     println!(
         "Medians of {ROUNDS} rounds, both in each round and the first in turn, after one round that isn't counted.\n\
          Frame calls: answers are summed and must be equal. Credits and last times are those of a fresh load before each\n\
-         round; tables, frames and calls are not cleared, and no call changes them.\n\
+         round; tables, frames and calls are not cleared, and no call changes them. Where accounts are full, a credit is\n\
+         put back before each call, and both times include that.\n\
+         {SHARES}\n\
          Loading: the four runs are cleared before each round and must be equal after it; within a round they are not.\n\
          Replay: outputs are compared once before the rounds, which write to /dev/null. The log is not cleared from the\n\
          system's cache.\n"
@@ -45,13 +59,7 @@ pub fn compare<T: PartialEq>(
     proved();
     rust();
     for round in 0..ROUNDS {
-        let (a, b) = if round % 2 == 0 {
-            let a = proved();
-            (a, rust())
-        } else {
-            let b = rust();
-            (proved(), b)
-        };
+        let (a, b) = in_turn(round % 2 == 0, &mut proved, &mut rust);
         assert!(a.1 == b.1, "{work}: the two give other answers");
         ours.push(a.0);
         theirs.push(b.0);

@@ -4,7 +4,7 @@ use mathlib.Core.Path.{_≡_, sym, _∙_}
 use Rattle.frame.specs.Frame.{lengthCode}
 use Rattle.frame.proofs.Frame.{within}
 use Rattle.account.specs.Account.{valid}
-use Rattle.account.proofs.Methods.{none-invalid, some-valid, some-capacity, valid-limits}
+use Rattle.account.proofs.Methods.{none-invalid, some-valid, some-capacity, some-room, valid-limits}
 use Rattle.account.proofs.Step.{police-length, police-invalid, police-late, police-short, police-forwarded}
 use borrow.Author.Needs.{needs}
 use Rattle.account.proofs.Account.police.Statement.{statement}
@@ -33,27 +33,25 @@ returns-2 c = police-invalid _ _ _ (good (c .before .before)) (none-invalid _ _ 
 returns-3 : tie.Need-returns-3
 returns-3 c = police-late _ _ _ (good (c .before .before .before .before)) (sound (c .before .before)) (c .if3 .taken)
 
-credit-at-requires : tie.Need-credit-at-requires
-credit-at-requires c κs = (some-capacity _ _ (c .before .before .before .capacity .ensures) (c .before .before .if2 .left), c .if3 .left)
+brought-to-requires : tie.Need-brought-to-requires
+brought-to-requires c κs =
+    (some-capacity _ _ (c .before .before .before .capacity .ensures) (c .before .before .if2 .left), (some-room _ _ (c .before .before .before .capacity .ensures) (c .before .before .if2 .left), c .if3 .left))
 
 frame-cost-requires : tie.Need-frame-cost-requires
 frame-cost-requires c κs = (valid-limits _ (sound (c .before .before .before)), within _ (good (c .before .before .before .before .before)) .1)
 
+returns-4 : tie.Need-returns-4
+returns-4 c =
+    police-short _ _ _ (good (c .before .before .before .before .before .before .before)) (sound (c .before .before .before .before .before)) (c .before .before .before .if3 .left)
+    _ (c .before .before .brought-to .ensures) _ (c .before .frame-cost .ensures) (c .if4 .taken)
+
 holding-requires : tie.Need-holding-requires
 holding-requires c κs = search needs
 
-returns-4 : tie.Need-returns-4
-returns-4 c =
-    police-short _ _ _ (good (c .before .before .before .before .before .before .before .before)) (sound (c .before .before .before .before .before .before)) (c .before .before .before .before .if3 .left) _ _ (c .before .before .before .credit-at .ensures) (c .before .before .frame-cost .ensures) _
-    (c .before .if4 .taken) (c .holding .ensures)
-
-holding-requires-2 : tie.Need-holding-requires-2
-holding-requires-2 c κs = search needs
-
 returns-5 : tie.Need-returns-5
 returns-5 c =
-    police-forwarded _ _ _ (good (c .before .before .before .before .before .before .before .before)) (sound (c .before .before .before .before .before .before)) (c .before .before .before .before .if3 .left) _ _ (c .before .before .before .credit-at .ensures) (c .before .before .frame-cost .ensures) _
-    (c .before .if4 .left) (c .holding2 .ensures)
+    police-forwarded _ _ _ (good (c .before .before .before .before .before .before .before .before)) (sound (c .before .before .before .before .before .before)) (c .before .before .before .before .if3 .left)
+    _ (c .before .before .before .brought-to .ensures) _ (c .before .before .frame-cost .ensures) _ (c .before .if4 .left) (c .holding .ensures)
 
 pub police-spec : {M : Type 1} → statement M
 police-spec =
@@ -64,9 +62,8 @@ police-spec =
     capacity-requires
     returns-2
     returns-3
-    credit-at-requires
+    brought-to-requires
     frame-cost-requires
-    holding-requires
     returns-4
-    holding-requires-2
+    holding-requires
     returns-5)

@@ -1,7 +1,6 @@
 -- `top_up`: by the account, then by the time. Assumes nothing.
-use mathlib.Core.Path.{ap, _∙_}
-use Rattle.account.proofs.Methods.{none-invalid, some-valid, some-capacity, top-up-invalid, top-up-late, top-up-valid}
-use Rattle.account.specs.Account.{holding}
+use mathlib.Core.Path.{_∙_}
+use Rattle.account.proofs.Methods.{none-invalid, some-valid, some-capacity, some-room, top-up-invalid, top-up-late, top-up-valid}
 use borrow.Author.Needs.{needs}
 use Rattle.account.proofs.Account.top_up.Statement.{statement}
 use Rattle.account.proofs.Account.top_up.Tie as tie
@@ -15,19 +14,15 @@ returns c = top-up-invalid _ _ (none-invalid _ _ (c .before .capacity .ensures) 
 returns-2 : tie.Need-returns-2
 returns-2 c = top-up-late _ _ (some-valid _ _ (c .before .before .capacity .ensures) (c .before .if1 .left)) (c .if2 .taken)
 
-credit-at-requires : tie.Need-credit-at-requires
-credit-at-requires c κs = (some-capacity _ _ (c .before .before .capacity .ensures) (c .before .if1 .left), c .if2 .left)
-
-holding-requires : tie.Need-holding-requires
-holding-requires c κs = search needs
+brought-to-requires : tie.Need-brought-to-requires
+brought-to-requires c κs =
+    (some-capacity _ _ (c .before .before .capacity .ensures) (c .before .if1 .left), (some-room _ _ (c .before .before .capacity .ensures) (c .before .if1 .left), c .if2 .left))
 
 returns-3 : tie.Need-returns-3
 returns-3 c =
-    c .holding .ensures
-    ∙ ap (λ (held : _). holding (c .before .before .before .before .before .args .self) held (c .before .before .before .before .before .args .time)) (c .before .credit-at .ensures)
-    ∙ top-up-valid _ _ (some-valid _ _ (c .before .before .before .before .capacity .ensures) (c .before .before .before .if1 .left)) (c .before .before .if2 .left)
+    c .brought-to .ensures
+    ∙ top-up-valid _ _ (some-valid _ _ (c .before .before .before .capacity .ensures) (c .before .before .if1 .left)) (c .before .if2 .left)
 
 pub top-up-spec : {M : Type 1} → statement M
 top-up-spec =
-    tie.close
-    (tie.spec capacity-requires returns returns-2 credit-at-requires holding-requires returns-3)
+    tie.close (tie.spec capacity-requires returns returns-2 brought-to-requires returns-3)
