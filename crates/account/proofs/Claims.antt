@@ -8,11 +8,12 @@ use mathlib.Core.List.{[], _∷_, List·Memᴰ, List·Memᴰ·head, List·Memᴰ
 use native.Mathlib.Nat.{le-trans}
 use native.Mathlib.Omega.{arith}
 use lib.Dec.{eqb, lit≤}
+use Rattle.octets.proofs.Tests.{neither}
 use Rattle.frame.specs.Frame.{lengthCode}
 use Rattle.frame.proofs.Frame.{within, by-length}
 use Rattle.account.specs.Terms.{inLimits, bag, charge, rate, capacity, cost}
 use Rattle.account.specs.Account.{termsOf, holding, valid, creditAt, costOf, toppedUp, debited}
-use Rattle.account.specs.Step.{Told, told}
+use Rattle.account.specs.Step.{Told, told, Stepped, stepped, policed}
 use Rattle.account.specs.Claims.{CapacityLargest, TermsLimits, ToldApart, StepAnswers, RefusedStepKeeps, ShortStepTopsUp}
 use Rattle.account.specs.Claims.{ForwardedStepTakesCost, StepIsTopUpAndDebit, FullTopUp, StepBelowCapacity, Tells, RefusedStepTells, Rest, RefusedMethodsRest}
 use Rattle.account.specs.declared.Account.{Account}
@@ -109,34 +110,37 @@ module _ (a : Account) (n t : ℕ) (z : lengthCode n ≡ 0) (v : valid a ≡ tru
   cost-is : cost (termsOf a) n ≡ costOf topped n
   cost-is = cost-valid topped n z (valid-by topped (valid-limits a v) (credit-at-high a t))
 
--- a code that is neither of two
-neither : (x y z : ℕ) {P : Type 0} → (x ≡ y → ⊥) → (x ≡ z → ⊥) → (x ≡ y) ⊎ (x ≡ z) → P
-neither x y z f g e = absurd (⊎-elim f g e)
-
-pub step-is-top-up-and-debit : StepIsTopUpAndDebit
-step-is-top-up-and-debit a n t =
-    by-step a n t (λ q. (q .says .code ≡ 0) ⊎ (q .says .code ≡ 9) → q .account ≡ debited (toppedUp a t) n)
-    (λ m. length-refuses n m (λ x. (x ≡ 0) ⊎ (x ≡ 9) → a ≡ debited (toppedUp a t) n)
+-- by cases where the step answers 0 or 9; its other answers fall away
+by-reached : (a : Account) (n t : ℕ) (P : Stepped → Type 0)
+    → (lengthCode n ≡ 0 → valid a ≡ true → a .last ≤ t → creditAt a t < cost (termsOf a) n
+    → P (stepped (Short (creditAt a t)) (holding a (creditAt a t) t)))
+    → (lengthCode n ≡ 0 → valid a ≡ true → a .last ≤ t → cost (termsOf a) n ≤ creditAt a t
+    → P (stepped (Forwarded (creditAt a t - cost (termsOf a) n)) (holding a (creditAt a t - cost (termsOf a) n) t)))
+    → (policed a n t .says .code ≡ 0) ⊎ (policed a n t .says .code ≡ 9) → P (policed a n t)
+by-reached a n t P i j =
+    by-step a n t (λ q. (q .says .code ≡ 0) ⊎ (q .says .code ≡ 9) → P q)
+    (λ m. length-refuses n m (λ x. (x ≡ 0) ⊎ (x ≡ 9) → P (stepped (Refused x) a))
     (neither 1 0 9 (λ e. omega arith) (λ e. omega arith))
     (neither 2 0 9 (λ e. omega arith) (λ e. omega arith)))
     (λ _ _. neither 10 0 9 (λ e. omega arith) (λ e. omega arith))
     (λ _ _ _. neither 8 0 9 (λ e. omega arith) (λ e. omega arith))
-    (λ z v h l _. debit-short (topped a n t z v h) n _ (cost-is a n t z v h) l ∙ topped-up a n t z v h)
-    (λ z v h l _. debit-enough (topped a n t z v h) n _ (cost-is a n t z v h) l ∙ topped-up a n t z v h)
+    (λ z v h l _. i z v h l)
+    (λ z v h l _. j z v h l)
+
+pub step-is-top-up-and-debit : StepIsTopUpAndDebit
+step-is-top-up-and-debit a n t =
+    by-reached a n t (λ q. q .account ≡ debited (toppedUp a t) n)
+    (λ z v h l. debit-short (topped a n t z v h) n _ (cost-is a n t z v h) l ∙ topped-up a n t z v h)
+    (λ z v h l. debit-enough (topped a n t z v h) n _ (cost-is a n t z v h) l ∙ topped-up a n t z v h)
 
 pub full-top-up : FullTopUp
 full-top-up a t v e h = sym (top-up-valid a t v h) ∙ sym (brought-full a t (holding a (a .credit) t) (capacity (termsOf a)) refl e refl)
 
 pub step-below-capacity : StepBelowCapacity
 step-below-capacity a n t s =
-    by-step a n t (λ q. (q .says .code ≡ 0) ⊎ (q .says .code ≡ 9) → q .account .credit < capacity (termsOf a))
-    (λ m. length-refuses n m (λ x. (x ≡ 0) ⊎ (x ≡ 9) → a .credit < capacity (termsOf a))
-    (neither 1 0 9 (λ e. omega arith) (λ e. omega arith))
-    (neither 2 0 9 (λ e. omega arith) (λ e. omega arith)))
-    (λ _ _. neither 10 0 9 (λ e. omega arith) (λ e. omega arith))
-    (λ _ _ _. neither 8 0 9 (λ e. omega arith) (λ e. omega arith))
-    (λ _ v _ l _. omega (arith, cost-capacity (termsOf a) (limits (termsOf a) (valid-limits a v)) n s))
-    (λ z v _ l _.
+    by-reached a n t (λ q. q .account .credit < capacity (termsOf a))
+    (λ _ v _ l. omega (arith, cost-capacity (termsOf a) (limits (termsOf a) (valid-limits a v)) n s))
+    (λ z v _ l.
     let w = within n z .0 in
     let b = cost-low (termsOf a) (limits (termsOf a) (valid-limits a v)) n (omega arith) in
     omega (arith, credit-at-high a t))

@@ -13,9 +13,6 @@ use Rattle.account.specs.Account.{termsOf, holding, valid, creditAt, cap
 use Rattle.account.specs.declared.Account.{Account}
 use Rattle.account.proofs.Limits.{limits, capacity-low}
 
-capped : (full credit gain : ℕ) → credit ≡ full → credit ≡ min full (credit + gain)
-capped full credit gain e = omega arith
-
 module _ (a : Account) where
   -- ---- a valid account
   pub valid-limits : valid a ≡ true → inLimits (termsOf a) ≡ true
@@ -86,7 +83,7 @@ module _ (a : Account) where
   -- a credit at the capacity stays, however long the time
   pub credit-at-full : (t : ℕ) → a .credit ≡ capacity (termsOf a) → a .credit ≡ creditAt a t
   unfolding creditAt
-  credit-at-full t e = capped (capacity (termsOf a)) (a .credit) (rate (termsOf a) * (t - a .last)) e
+  credit-at-full t e = omega (arith, e)
 
   pub credit-at-high : (t : ℕ) → creditAt a t ≤ capacity (termsOf a)
   unfolding creditAt

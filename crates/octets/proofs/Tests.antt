@@ -1,7 +1,8 @@
--- Tests and what they say: a choice by its test's value, both halves of a conjunction, orders that imply each other.
+-- Tests and what they say: a choice by its test's value, both halves of a conjunction, neither of two numbers, orders that imply each other.
 -- Assumes nothing.
 use Prim.Native.Nat.{ℕ, _+_, _-_, _≤_, _<_}
 use mathlib.Core.Bool.{Bool, true, false, not, _&&_, false≢true}
+use mathlib.Core.Logic.{_⊎_, ⊎-elim}
 use mathlib.Core.Path.{_≡_, refl, sym, _∙_}
 use native.Mathlib.Nat.{zero-add}
 use native.Mathlib.Omega.{arith}
@@ -17,6 +18,10 @@ split false f g = g refl
 pub both : (x y : Bool) → (x && y) ≡ true → (x ≡ true) × (y ≡ true)
 both true y e = (refl, e)
 both false y e = absurd (false≢true e)
+
+-- a number that is neither of two
+pub neither : (x y z : ℕ) {P : Type 0} → (x ≡ y → ⊥) → (x ≡ z → ⊥) → (x ≡ y) ⊎ (x ≡ z) → P
+neither x y z f g e = absurd (⊎-elim f g e)
 
 -- two orders that follow from each other have the same test
 pub leb-same : (a b c d : ℕ) → (a ≤ b → c ≤ d) → (c ≤ d → a ≤ b) → leb a b ≡ leb c d

@@ -2,7 +2,7 @@
 use Prim.Native.Nat.{ℕ, _-_, _≤_, _<_}
 use mathlib.Core.Bool.{Bool, true, false, not, cond, _&&_, false≢true}
 use mathlib.Core.List.{List, [], _∷_}
-use mathlib.Core.Logic.{_⊎_, inl, inr, ⊎-elim}
+use mathlib.Core.Logic.{_⊎_, inl, inr}
 use mathlib.Core.Option.{Option, none, some}
 use mathlib.Core.Path.{_≡_, refl, sym, ap, _∙_, subst}
 use native.Mathlib.Nat.{le-trans}
@@ -10,7 +10,7 @@ use native.Mathlib.Omega.{arith}
 use lib.ListN.{length}
 use lib.Dec.{ltb, eqb}
 use borrow.Author.Tests.{lt-ltb, le-ltb, ltb-true, ltb-false, eqb-true, eqb-false}
-use Rattle.octets.proofs.Tests.{split, both}
+use Rattle.octets.proofs.Tests.{split, both, neither}
 use Rattle.frame.specs.Frame.{lengthCode, constantField, linkNumber}
 use Rattle.frame.proofs.Frame.{by-length}
 use Rattle.account.specs.Terms.{capacity, cost}
@@ -284,9 +284,6 @@ pub refused-call-keeps : RefusedCallKeeps
 refused-call-keeps g s f = kept-by g s f (found (g .links) (g .linkCount) (linkNumber (f .octets))) (called g s f) (call-effects g s f)
 
 -- ---- what a call stores is less than the capacity
-neither : (x : ℕ) {P : Type 0} → (x ≡ 0 → ⊥) → x ≤ 7 ⊎ (x ≡ 10) → (x ≡ 0) ⊎ (x ≡ 9) → P
-neither x d h e = absurd (⊎-elim d (λ q. ⊎-elim (λ l. omega arith) (λ l. omega arith) h) e)
-
 abbrev Below : Account → Decided → Type 0
 Below a d = (d .says .code ≡ 0) ⊎ (d .says .code ≡ 9) → d .credit < capacity (termsOf a)
 
@@ -302,8 +299,8 @@ stored-below-capacity l used a n port t =
     (step-below-capacity a n t (le-trans (passed-largest l n port k) (sound-largest l used (a .smax) (b .0)))))
     (λ m.
     let k = eqb-false _ _ m in
-    subst (Below a) (sym (decided-refused l used a n port t (b .0) (b .1) k)) (neither (portCode l n port) k (inl (port-code-high l n port)))))
-    (λ e. subst (Below a) (sym (decided-unsound l used a n port t e)) (neither 10 (λ q. omega arith) (inr refl)))
+    subst (Below a) (sym (decided-refused l used a n port t (b .0) (b .1) k)) (neither (portCode l n port) 0 9 k (λ q. omega (arith, port-code-high l n port)))))
+    (λ e. subst (Below a) (sym (decided-unsound l used a n port t e)) (neither 10 0 9 (λ q. omega arith) (λ q. omega arith)))
 
 -- ---- ports that no switch has
 other-port : (l : Link) (used smax n port : ℕ) → linkSound l used smax ≡ true → portCount ≤ port → portCode l n port ≡ 5
