@@ -8,8 +8,9 @@
  * Nobody else writes there while a call runs, and nothing is kept after it. Any contents, counts, ports, networks and times
  * get an answer. A single place, as `offset`, is always written.
  *
- * Tables. An account's row is 6 octets: Smax (2), k (1), jitter in microseconds (2), mode (1; 0 byte, 1 frame). The BAG is
- * 2^k milliseconds. A link's row is 13 octets: number (2), input port (1), mask of output ports (4, bit p for port p),
+ * Tables. An account's row is 6 octets: Smax (2), k (1), jitter in microseconds (2), mode (1). The BAG is 2^k milliseconds.
+ * A frame costs by its octets in mode 0, by Smax in mode 1; modes 2 and 3 are the same with 20 line octets more for the
+ * frame and for Smax. A link's row is 13 octets: number (2), input port (1), mask of output ports (4, bit p for port p),
  * smallest and largest frame (2 each), account (2). Numbers of several octets have their high octet first. A row in part
  * is none. Each account has one credit and one last time. Time is in microseconds. An image has at most 64 accounts and
  * 256 links, so runs for these hold any; no image that is accepted has more than 4,683 octets.

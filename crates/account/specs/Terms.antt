@@ -1,7 +1,7 @@
--- The configured values of an account, their limits, and what follows from them alone: BAG, capacity and cost
--- (document 01, "Accounts and links" and "Credit, in whole units").
+-- The configured values of an account, their limits, and what follows from them alone: BAG, charge, capacity and cost
+-- (document 01, "Accounts and links" and "Credit, in whole units"; document 02, Q-3).
 use Prim.Native.Nat.{ℕ, _+_, _*_, _^_}
-use mathlib.Core.Bool.{Bool, _&&_}
+use mathlib.Core.Bool.{Bool, _&&_, _||_}
 use lib.Dec.{leb, eqb}
 use Rattle.octets.specs.Choice.{if_then_else_}
 use Rattle.frame.specs.Limits.{smallestFrame, largestFrame}
@@ -13,6 +13,10 @@ pub record Terms : Type 0 where
   pub jitter : ℕ
   pub mode : ℕ
 
+-- the same, value by value
+abbrev pub termsWith : ℕ → ℕ → ℕ → ℕ → Terms
+termsWith smax k jitter mode = record { smax = smax; k = k; jitter = jitter; mode = mode }
+
 -- the largest k and the largest jitter
 abbrev pub largestK : ℕ
 largestK = 7
@@ -20,12 +24,18 @@ largestK = 7
 abbrev pub largestJitter : ℕ
 largestJitter = 10000
 
--- the two modes; no mode is above frame mode
+-- the modes: byte mode and frame mode, and from 2 on the same with line octets (Q-3). No mode is above the last
 abbrev pub byteMode : ℕ
 byteMode = 0
 
 abbrev pub frameMode : ℕ
 frameMode = 1
+
+abbrev pub lineByteMode : ℕ
+lineByteMode = 2
+
+abbrev pub lineFrameMode : ℕ
+lineFrameMode = 3
 
 -- the values keep their limits, Smax those of a frame
 unfoldable pub inLimits : Terms → Bool
@@ -34,7 +44,7 @@ inLimits p =
     && leb (p .smax) largestFrame
     && leb (p .k) largestK
     && leb (p .jitter) largestJitter
-    && leb (p .mode) frameMode
+    && leb (p .mode) lineFrameMode
 
 -- the bandwidth allocation gap in microseconds: one millisecond, doubled k times
 abbrev pub shortestBag : ℕ
@@ -43,21 +53,34 @@ shortestBag = 1000
 unfoldable pub bag : ℕ → ℕ
 bag k = shortestBag * 2 ^ k
 
--- what is charged for n octets on the account: these octets and nothing beside, in either mode
-unfoldable pub charge : Terms → ℕ → ℕ
-charge p n = n
+-- what the line takes beside a frame's octets, in octets (Q-3; IEEE 802.3): preamble and start delimiter, 8, and the gap between
+-- frames, 12
+abbrev pub lineOctets : ℕ
+lineOctets = 20
+
+-- the charge added to any octets, by mode
+unfoldable pub added : ℕ → ℕ
+added mode = if leb lineByteMode mode then lineOctets else 0
+
+-- what is charged for n octets, by mode
+unfoldable pub charge : ℕ → ℕ → ℕ
+charge mode n = n + added mode
 
 -- what a microsecond adds to the credit: the charge of Smax
 unfoldable pub rate : Terms → ℕ
-rate p = charge p (p .smax)
+rate p = charge (p .mode) (p .smax)
 
--- Capacity: Smax x (BAG + J)
+-- Capacity: that times (BAG + J)
 unfoldable pub capacity : Terms → ℕ
 capacity p = rate p * (bag (p .k) + p .jitter)
 
--- what is charged for a frame of n octets: its own octets in byte mode, Smax in frame mode
+-- the modes that charge a frame by its own octets; the others charge Smax for it
+unfoldable pub byOctets : ℕ → Bool
+byOctets mode = eqb mode byteMode || eqb mode lineByteMode
+
+-- what is charged for a frame of n octets
 unfoldable pub charged : Terms → ℕ → ℕ
-charged p n = charge p (if eqb (p .mode) byteMode then n else p .smax)
+charged p n = charge (p .mode) (if byOctets (p .mode) then n else p .smax)
 
 -- Cost: that times BAG
 unfoldable pub cost : Terms → ℕ → ℕ

@@ -5,7 +5,7 @@ ghost use mathlib.Core.Path.{_≡_};
 ghost use mathlib.Core.Bool.{true};
 ghost use Prim.Native.Nat.{_+_, _*_, _≤_, min};
 ghost use Rattle.frame.specs.Limits.{largestFrame};
-ghost use Rattle.account.specs.Terms.{largestK, bag, inLimits, rate, capacity, charged, cost};
+ghost use Rattle.account.specs.Terms.{largestK, bag, inLimits, charge, rate, capacity, byOctets, charged, cost};
 ghost use Rattle.account.specs.Account.{termsOf, holding, creditAt, capacityOf, costOf, toppedUp, debited};
 ghost use Rattle.account.specs.Step.{stepped, steppedOf, policed};
 
@@ -17,10 +17,16 @@ const LARGEST_K: u8 = 7;
 
 const LARGEST_JITTER: u16 = 10000;
 
-// The modes: a frame costs by its own octets, or by Smax. No mode is above frame mode.
+// The modes. In byte mode a frame costs by its own octets, in frame mode, 1, by Smax; from `LINE_BYTE_MODE` on, line
+// octets are counted with them. No mode is above the last.
 const BYTE_MODE: u8 = 0;
 
-const FRAME_MODE: u8 = 1;
+const LINE_BYTE_MODE: u8 = 2;
+
+const LINE_FRAME_MODE: u8 = 3;
+
+// What the line takes beside a frame's octets: preamble, start delimiter, and the gap between frames.
+const LINE_OCTETS: u32 = 20;
 
 // An elapsed time in which any rate but 0 adds more than a credit can hold.
 const LONG_ELAPSED: u64 = 4294967296;
@@ -82,6 +88,26 @@ fn refilled(capacity: u32, credit: u32, rate: u32, elapsed: u64) -> u32
     held as u32
 }
 
+// What is charged for so many octets, by mode.
+fn charge(mode: u8, octets: u16) -> u32
+    ensures { λ r. ⌜ r ≡ charge mode octets ⌝ }
+{
+    if mode < LINE_BYTE_MODE {
+        return octets as u32;
+    }
+    octets as u32 + LINE_OCTETS
+}
+
+// Whether the mode charges a frame by its own octets.
+fn by_octets(mode: u8) -> bool
+    ensures { λ r. ⌜ r ≡ byOctets mode ⌝ }
+{
+    if mode == BYTE_MODE {
+        return true;
+    }
+    mode == LINE_BYTE_MODE
+}
+
 impl Account {
     // Whether the configured values keep their limits.
     pub fn in_limits(self) -> bool
@@ -99,25 +125,24 @@ impl Account {
         if LARGEST_JITTER < self.jitter {
             return false;
         }
-        self.mode <= FRAME_MODE
+        self.mode <= LINE_FRAME_MODE
     }
 
-    // What a microsecond adds to the credit.
+    // What a microsecond adds to the credit: the charge of Smax.
     fn rate(self) -> u32
         ensures { λ r. ⌜ r ≡ rate (termsOf self) ⌝ }
     {
-        self.smax as u32
+        charge(self.mode, self.smax)
     }
 
-    // The octets that a frame is charged for, by mode.
-    fn charged(self, octets: u32) -> u32
+    // What is charged for a frame: its own octets, or Smax.
+    fn charged(self, octets: u16) -> u32
         ensures { λ r. ⌜ r ≡ charged (termsOf self) octets ⌝ }
     {
-        if self.mode == BYTE_MODE {
-            octets
-        } else {
-            self.rate()
+        if by_octets(self.mode) {
+            return charge(self.mode, octets);
         }
+        self.rate()
     }
 
     // The cost of a frame that the step doesn't refuse.
@@ -125,7 +150,7 @@ impl Account {
         requires { ⌜ inLimits (termsOf self) ≡ true ⌝ ∗ ⌜ octets ≤ largestFrame ⌝ }
         ensures { λ r. ⌜ r ≡ cost (termsOf self) octets ⌝ }
     {
-        self.charged(octets as u32) * bag_of(self.k)
+        self.charged(octets as u16) * bag_of(self.k)
     }
 
     // The topped-up credit at a time that is not before the last; `full` is the account's capacity.

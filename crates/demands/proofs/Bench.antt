@@ -9,7 +9,7 @@ use lib.Dec.{lit<}
 use Rattle.octets.specs.Numbers.{numberAt}
 use Rattle.octets.specs.Runs.{octetsAt, joined}
 use Rattle.frame.specs.Frame.{lengthCode}
-use Rattle.account.specs.Terms.{byteMode, frameMode, inLimits, bag, charge, rate, capacity, charged, cost}
+use Rattle.account.specs.Terms.{byteMode, frameMode, inLimits, bag, added, charge, rate, capacity, byOctets, charged, cost}
 use Rattle.account.specs.Account.{valid, creditAt}
 use Rattle.account.specs.Step.{judged, policed}
 use Rattle.rule.specs.Bench.{Case, termsP, byteCases, frameCases}
@@ -60,11 +60,11 @@ fresh-by s account e a c l =
     }
 
 fresh-p : Fresh imageP (runs-of accountP)
-unfolding accountRows capacities linkRows joined octetsAt fieldPlace termsAt numberAt capacity rate charge bag
+unfolding accountRows capacities linkRows joined octetsAt fieldPlace termsAt numberAt capacity rate added charge bag
 fresh-p = fresh-by imageP accountP (image-p-reads .0) refl refl refl
 
 fresh-frame-p : Fresh frameImageP (runs-of accountP1)
-unfolding accountRows capacities linkRows joined octetsAt fieldPlace termsAt numberAt capacity rate charge bag
+unfolding accountRows capacities linkRows joined octetsAt fieldPlace termsAt numberAt capacity rate added charge bag
 fresh-frame-p = fresh-by frameImageP accountP1 frame-p-reads refl refl refl
 
 -- ---- the answers from these, computed
@@ -75,11 +75,11 @@ abbrev full : State
 full = stateOf (300000 ∷ []) (0 ∷ [])
 
 computed : answers (config-by accountP answerP) full (calls byteCases) ≡ verdicts byteCases
-unfolding answers called routed frameCode lengthCode numberAt foundIn leading linkAt accountHeld termsAt inUse decided portsSound sizesSound linkSound inLimits bag charge rate capacity charged cost valid creditAt judged policed portCode
+unfolding answers called routed frameCode lengthCode numberAt foundIn leading linkAt accountHeld termsAt inUse decided portsSound sizesSound linkSound inLimits bag added charge rate capacity byOctets charged cost valid creditAt judged policed portCode
 computed = refl
 
 computed-frame : answers (config-by accountP1 answerP) full (calls frameCases) ≡ verdicts frameCases
-unfolding answers called routed frameCode lengthCode numberAt foundIn leading linkAt accountHeld termsAt inUse decided portsSound sizesSound linkSound inLimits bag charge rate capacity charged cost valid creditAt judged policed portCode
+unfolding answers called routed frameCode lengthCode numberAt foundIn leading linkAt accountHeld termsAt inUse decided portsSound sizesSound linkSound inLimits bag added charge rate capacity byOctets charged cost valid creditAt judged policed portCode
 computed-frame = refl
 
 -- ---- and from every load
@@ -115,7 +115,7 @@ module _ (s account : List ℕ) (e : readImage s ≡ answerP) (fresh : Fresh s (
       )
 
 computed-left : final (config-by accountP answerP) full (calls byteCases) ≡ stateOf (100000 ∷ []) ((2 ^ 64 - 1) ∷ [])
-unfolding final called routed frameCode lengthCode numberAt foundIn leading linkAt accountHeld termsAt inUse decided portsSound sizesSound linkSound inLimits bag charge rate capacity charged cost valid creditAt judged policed portCode
+unfolding final called routed frameCode lengthCode numberAt foundIn leading linkAt accountHeld termsAt inUse decided portsSound sizesSound linkSound inLimits bag added charge rate capacity byOctets charged cost valid creditAt judged policed portCode
 computed-left = refl
 
 terms-p : (imageTerms imageP 0 ≡ termsP byteMode) × (imageTerms frameImageP 0 ≡ termsP frameMode)
@@ -123,7 +123,7 @@ unfolding termsAt numberAt fieldPlace
 terms-p = (refl, refl)
 
 capacity-p : capacity (accountIn (accountFields imageP) 0) ≡ 300000
-unfolding capacity rate charge bag termsAt numberAt fieldPlace
+unfolding capacity rate added charge bag termsAt numberAt fieldPlace
 capacity-p = refl
 
 pub call-bench-table : CallBenchTable

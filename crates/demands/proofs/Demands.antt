@@ -1,11 +1,11 @@
 -- The three demands, from the claims that they gather. Assumes nothing.
 use Rattle.octets.proofs.Claims.{reads-back, writes-back}
 use Rattle.frame.proofs.Claims.{length-limits, payload-length, reading-answers, reading-refused}
-use Rattle.account.proofs.Claims.{capacity-largest, forwarded-step-takes-cost, refused-methods-rest, refused-step-keeps, refused-step-tells, short-step-tops-up, step-answers, step-is-top-up-and-debit, terms-limits, told-apart}
+use Rattle.account.proofs.Claims.{capacity-largest, cost-largest, formulas-by-mode, forwarded-step-takes-cost, refused-methods-rest, refused-step-keeps, refused-step-tells, short-step-tops-up, step-answers, step-is-top-up-and-debit, terms-limits, told-apart}
 use Rattle.rule.proofs.Bench.{bench-table}
 use Rattle.rule.proofs.Bucket.{rule-read}
-use Rattle.rule.proofs.Rule.{rule-of-steps, steps-in-words}
-use Rattle.tables.proofs.Claims.{finds-first, finds-none, link-accepted, link-refused}
+use Rattle.rule.proofs.Rule.{allowance-by-mode, rule-of-steps, steps-in-words}
+use Rattle.tables.proofs.Claims.{finds-first, finds-none, link-accepted, link-refused, sizes-within-smax}
 use Rattle.layout.proofs.Claims.{constant-limits, image-figures}
 use Rattle.image.proofs.Bench.{image-p-reads}
 use Rattle.image.proofs.Claims.{accepted-ends, read-codes, read-field-by-field}
@@ -111,7 +111,10 @@ figures =
       lengths = length-limits;
       payload = payload-length;
       terms = terms-limits;
+      formulas = formulas-by-mode;
       capacity = capacity-largest;
+      cost = cost-largest;
+      sizes = sizes-within-smax;
       links-refused = link-refused;
       links-accepted = link-accepted;
       image = image-figures;
@@ -144,6 +147,7 @@ demand-3 =
       isolation = isolation;
       isolation-of-fresh-tables = isolation-of-fresh-tables;
       rule-read = rule-read;
+      allowance-by-mode = allowance-by-mode;
       rule-of-steps = rule-of-steps;
       steps-in-words = steps-in-words;
     }

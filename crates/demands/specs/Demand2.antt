@@ -1,11 +1,11 @@
 -- Demand 2: every answer is the right one. That each call's answer is document 01's is its contract, an equation with the definition
--- that states it; here are gathered the readings of these definitions that document 01 settles by itself, and the round trips. Proved
--- in proofs/Demands.antt.
+-- that states it; here are gathered the readings of these definitions that document 01 and document 02's Q-3 settle by themselves, and
+-- the round trips. Proved in proofs/Demands.antt.
 use Rattle.octets.specs.Claims.{ReadsBack, WritesBack}
 use Rattle.frame.specs.Claims.{LengthLimits, PayloadLength}
-use Rattle.account.specs.Claims.{CapacityLargest, TermsLimits, ForwardedStepTakesCost, StepIsTopUpAndDebit, RefusedMethodsRest}
+use Rattle.account.specs.Claims.{FormulasByMode, CapacityLargest, CostLargest, TermsLimits, ForwardedStepTakesCost, StepIsTopUpAndDebit, RefusedMethodsRest}
 use Rattle.rule.specs.Bench.{BenchTable}
-use Rattle.tables.specs.Claims.{FindsFirst, FindsNone, LinkRefused, LinkAccepted}
+use Rattle.tables.specs.Claims.{FindsFirst, FindsNone, SizesWithinSmax, LinkRefused, LinkAccepted}
 use Rattle.layout.specs.Claims.{ImageFigures, ConstantLimits}
 use Rattle.image.specs.Bench.{ImagePReads}
 use Rattle.image.specs.Claims.{AcceptedEnds, ReadFieldByField, PrefixRead}
@@ -58,12 +58,15 @@ pub record Images : Type 0 where
   pub first-bad-account : FirstBadAccount
   pub first-bad-link : FirstBadLink
 
--- document 01's figures: limits at both sides, and the starred cases of the bench sheet
+-- the figures of document 01 and of Q-3: limits at both sides, the formulas of each mode, and the starred cases of the bench sheet
 pub record Figures : Type 0 where
   pub lengths : LengthLimits
   pub payload : PayloadLength
   pub terms : TermsLimits
+  pub formulas : FormulasByMode
   pub capacity : CapacityLargest
+  pub cost : CostLargest
+  pub sizes : SizesWithinSmax
   pub links-refused : LinkRefused
   pub links-accepted : LinkAccepted
   pub image : ImageFigures

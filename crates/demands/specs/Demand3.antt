@@ -9,7 +9,7 @@ use lib.ListN.{length, getD, set, take, replicate}
 use Rattle.octets.specs.Lists.{only}
 use Rattle.account.specs.Terms.{cost}
 use Rattle.rule.specs.Bucket.{lastTime, FromEach, RuleRead}
-use Rattle.rule.specs.Rule.{allowance, RuleOfSteps, StepsInWords}
+use Rattle.rule.specs.Rule.{allowance, AllowanceByMode, RuleOfSteps, StepsInWords}
 use Rattle.tables.specs.Rows.{Config}
 use Rattle.image.specs.Read.{readImage}
 use Rattle.image.specs.Bench.{imageP, answerP}
@@ -102,7 +102,7 @@ MeantLimits =
     × (map (meant zeroImageP 0) (destined 0 5 ∷ destined 0 6 ∷ destined 0 63 ∷ destined 7 63 ∷ []) ≡ false ∷ true ∷ true ∷ false ∷ [])
     × (meant zeroImageP 1 (destined 0 63) ≡ false)
 
--- ---- the whole of it, with the rule read literally and the claim for lists of policing steps
+-- ---- the whole of it, with the rule read literally, the allowance by mode (document 02, Q-3) and the claim for lists of policing steps
 pub record Demand3 : Type 0 where
   pub rule : RuleOfHistory
   pub rule-of-fresh-tables : RuleOfFreshTables
@@ -113,5 +113,6 @@ pub record Demand3 : Type 0 where
   pub isolation : Isolation
   pub isolation-of-fresh-tables : IsolationOfFreshTables
   pub rule-read : RuleRead
+  pub allowance-by-mode : AllowanceByMode
   pub rule-of-steps : RuleOfSteps
   pub steps-in-words : StepsInWords

@@ -1,5 +1,5 @@
--- The rule of demand 3 for the account: a bucket of depth Smax x (BAG + J) and rate Smax. `arrival` is the single step, for a
--- frame that no code before 8 refuses; the rule for every list of steps follows from it. Assumes nothing.
+-- The rule of demand 3 for the account, whatever its mode: a bucket of the depth and the rate that the mode gives. `arrival` is the
+-- single step, for a frame that no code before 8 refuses; the rule for every list of steps follows from it. Assumes nothing.
 use Prim.Native.Nat.{ℕ, _+_, _-_, _*_, _≤_}
 use mathlib.Core.Bool.{true, false, false≢true}
 use mathlib.Core.Path.{_≡_, refl, sym, ap, ap₂, _∙_}
@@ -15,11 +15,12 @@ use Rattle.account.specs.Terms.{Terms, inLimits, bag, rate, capacity, cost}
 use Rattle.account.specs.Account.{accountOf, holding, loaded, valid, creditAt}
 use Rattle.account.specs.Step.{Stepped, stepped, policed}
 use Rattle.rule.specs.Bucket.{Reached, reached, lastTime, ruleHolds, FromEach}
-use Rattle.rule.specs.Rule.{Arrival, accountAfter, stepsTold, codes, allowance, Ruled, ruled, ruleArrived, ruleStep, ruleCodes, rulePast, RuleOfSteps, StepsInWords}
+use Rattle.rule.specs.Rule.{Arrival, accountAfter, stepsTold, codes, allowance, Ruled, ruled, ruleArrived, ruleStep, ruleCodes, rulePast, AllowanceByMode, RuleOfSteps, StepsInWords}
 use Rattle.account.specs.declared.Account.{Account}
 use Rattle.account.specs.declared.Outcome.the-variants.{Forwarded, Short}
 use Rattle.rule.proofs.Bucket.{gain, held, topped, held-high, rule-read}
 use Rattle.rule.proofs.Bucket.{Sound as SoundBucket, rule-is as bucket-rule}
+use Rattle.account.proofs.Claims.{formulas-by-mode}
 use Rattle.account.proofs.Methods.{valid-by}
 use Rattle.account.proofs.Step.{by-step, police-length}
 
@@ -49,7 +50,7 @@ module _ (p : Terms) where
     pub same-account : q .account ≡ state (r .past)
     pub sound : Sound (r .past)
 
-  -- Smax x (BAG + J + d) is the depth and what is gained in d
+  -- the allowance of d is the depth and what is gained in d
   allowance-is : (d : ℕ) → allowance p d ≡ capacity p + rate p * d
   unfolding allowance capacity
   allowance-is d = mul-add (rate p) (bag (p .k) + p .jitter) d
@@ -133,6 +134,14 @@ module _ (p : Terms) where
   pub state-loaded : loaded p ≡ state []
   unfolding held lastTime
   state-loaded = refl
+
+-- the rate of the mode times the window and the time
+pub allowance-by-mode : AllowanceByMode
+unfolding allowance
+allowance-by-mode s k j since =
+    let f = formulas-by-mode s k j in
+    let w : (x y : ℕ) → x ≡ y → x * (bag k + j + since) ≡ y * (bag k + j + since) = λ x y. ap (λ (r : ℕ). r * (bag k + j + since)) in
+    (w _ _ (f .0 .0), w _ _ (f .1 .0), w _ _ (f .2 .0), w _ _ (f .3 .0))
 
 pub rule-of-steps : RuleOfSteps
 rule-of-steps p ok steps = ap (λ (a : Account). codes (stepsTold a steps)) (state-loaded p) ∙ agrees p ok steps [] tt

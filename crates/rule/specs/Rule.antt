@@ -1,5 +1,5 @@
--- Demand 3 for a list of policing steps on one account (document 01, "The terms of demand 3"): what the steps answer, and the
--- codes by the rule, which names no stored credit.
+-- Demand 3 for a list of policing steps on one account (document 01, "The terms of demand 3"; document 02, Q-3): what the steps
+-- answer, and the codes by the rule, which names no stored credit.
 use Prim.Native.Nat.{ℕ, _+_, _*_, _≤_}
 use mathlib.Core.Bool.{true, not}
 use mathlib.Core.Path.{_≡_}
@@ -8,7 +8,7 @@ use mathlib.Core.Logic.{_↔_}
 use lib.Dec.{ltb, eqb}
 use Rattle.octets.specs.Choice.{if_then_else_}
 use Rattle.frame.specs.Frame.{lengthCode}
-use Rattle.account.specs.Terms.{Terms, inLimits, bag, rate, cost}
+use Rattle.account.specs.Terms.{Terms, termsWith, inLimits, bag, rate, cost}
 use Rattle.account.specs.Account.{loaded}
 use Rattle.account.specs.Step.{Told, policed}
 use Rattle.rule.specs.Bucket.{Reached, reached, lastTime, ruleHolds, FromEach}
@@ -35,7 +35,7 @@ codes = map (λ w. w .code)
 
 -- ---- the rule
 
--- the allowance of a time: Smax x (BAG + J + that time)
+-- the allowance of a time: Smax x (BAG + J + that time), Smax as the account's mode charges it
 unfoldable pub allowance : Terms → ℕ → ℕ
 allowance p since = rate p * (bag (p .k) + p .jitter + since)
 
@@ -70,7 +70,18 @@ unfoldable pub rulePast : Terms → List Reached → List Arrival → List Reach
 rulePast p past [] = past
 rulePast p past (s ∷ steps) = rulePast p (ruleStep p past (s .octets) (s .time) .past) steps
 
--- ---- the claims, from values that an image may have, credit at capacity and last time 0
+-- ---- the claims
+
+-- the allowance by mode: in modes 2 and 3 with the greater Smax (Q-3). What frames cost is in account's FormulasByMode
+abbrev pub AllowanceByMode : Type 0
+AllowanceByMode =
+    (s k j since : ℕ)
+    → (allowance (termsWith s k j 0) since ≡ s * (bag k + j + since))
+    × (allowance (termsWith s k j 1) since ≡ s * (bag k + j + since))
+    × (allowance (termsWith s k j 2) since ≡ (s + 20) * (bag k + j + since))
+    × (allowance (termsWith s k j 3) since ≡ (s + 20) * (bag k + j + since))
+
+-- the rest is from values that an image may have, of any mode, with the credit at capacity and the last time 0
 
 -- for every list of steps the codes are those of the rule
 abbrev pub RuleOfSteps : Type 0

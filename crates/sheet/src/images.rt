@@ -154,8 +154,8 @@ fn orders() {
     read(1, 1, 16, 8, 0x02_0006_FFFF_00_01F4);
     read(1, 1, 32, 17, 0x03_000D_0007_20_0000);
     // value of the account, and tag of the link, or nothing behind; value of the link, and tag of the end, or nothing
-    read(1, 1, 36, 12, 0xC8_00_01F4_02_04_000D);
-    read(1, 1, 17, 12, 0xC8_00_01F4_02_03_000D);
+    read(1, 1, 36, 12, 0xC8_00_01F4_04_04_000D);
+    read(1, 1, 17, 12, 0xC8_00_01F4_04_03_000D);
     read(1, 1, 36, 28, 0x40_00C8_0001_05_0000);
     read(1, 1, 33, 28, 0x40_00C8_0001_09_0000);
     // value of the link, and an octet too many
@@ -262,6 +262,13 @@ fn more_loads() {
     load(2, 2, 61, 45, 0x0007_02_0000_0008_00, 0, 0, 0, 0);
 }
 
+// Modes with line octets, of the first account and of the second; then a mode that isn't one.
+fn line_loads() {
+    load(2, 2, 61, 11, 0x00C8_00_01F4_02_0200, 12, 2, 2, 26);
+    load(2, 2, 61, 20, 0x05EE_07_2710_03_0300, 12, 2, 2, 26);
+    load(2, 2, 61, 20, 0x05EE_07_2710_04_0300, 12, 2, 2, 26);
+}
+
 pub(crate) fn run() {
     cuts();
     tags();
@@ -270,4 +277,5 @@ pub(crate) fn run() {
     most_accounts();
     most_links();
     loads();
+    line_loads();
 }

@@ -25,7 +25,7 @@ fn label(octets: usize, time: u64) {
     say::arrow();
 }
 
-fn step(a: Account, octets: usize, time: u64) -> Account {
+pub(crate) fn step(a: Account, octets: usize, time: u64) -> Account {
     let p = a.police(octets, time);
     let outcome = p.outcome;
     label(octets, time);
@@ -34,7 +34,7 @@ fn step(a: Account, octets: usize, time: u64) -> Account {
     p.account
 }
 
-fn account_of(smax: u16, k: u8, jitter: u16, mode: u8, credit: u32) -> Account {
+pub(crate) fn account_of(smax: u16, k: u8, jitter: u16, mode: u8, credit: u32) -> Account {
     Account {
         smax,
         k,
@@ -50,14 +50,14 @@ fn image_p(mode: u8) -> Account {
     account_of(200, 0, 500, mode, 300000)
 }
 
-fn figure(words: &[u8], n: u32) {
+pub(crate) fn figure(words: &[u8], n: u32) {
     say::text(words);
     say::number(n as u64);
     say::end();
 }
 
 // Bench sheet, cases 2 to 6 and 7 to 10, which follow one another.
-fn bench_first(a: Account) -> Account {
+pub(crate) fn bench_first(a: Account) -> Account {
     let b = step(a, 200, 0);
     let c = step(b, 200, 499);
     let d = step(c, 200, 500);
@@ -65,7 +65,7 @@ fn bench_first(a: Account) -> Account {
     step(e, 200, 1499)
 }
 
-fn bench_second(a: Account) {
+pub(crate) fn bench_second(a: Account) {
     let b = step(a, 200, 1500);
     let c = step(b, 64, 1500);
     let d = step(c, 64, 1820);
@@ -135,9 +135,23 @@ fn limits() {
     fresh(64, 8, 0, 0, 0);
     fresh(64, 0, 10000, 0, 0);
     fresh(64, 0, 10001, 0, 0);
-    fresh(64, 0, 0, 1, 0);
-    fresh(64, 0, 0, 2, 0);
+    fresh(64, 0, 0, 3, 0);
+    fresh(64, 0, 0, 4, 0);
     fresh(64, 0, 0, 0, 64001);
+    line_limits();
+}
+
+// Line octets move no limit but that of the credit.
+fn line_limits() {
+    fresh(44, 0, 0, 2, 0);
+    fresh(63, 0, 0, 2, 0);
+    fresh(63, 0, 0, 3, 0);
+    fresh(64, 0, 0, 2, 84000);
+    fresh(1518, 0, 0, 3, 0);
+    fresh(1519, 0, 0, 2, 0);
+    fresh(1519, 0, 0, 3, 0);
+    fresh(64, 8, 0, 2, 0);
+    fresh(64, 0, 10001, 3, 0);
 }
 
 // Where several codes fit, the first in the order of checking: length, account, time.
@@ -145,7 +159,7 @@ fn order() {
     say::text(b"# order of codes\n");
     let sound = image_p(0).top_up(500);
     let mut unsound = sound;
-    unsound.mode = 2;
+    unsound.mode = 4;
     step(unsound, 63, 499);
     step(unsound, 1519, 499);
     step(unsound, 64, 499);
@@ -209,9 +223,8 @@ fn top_up_from_500(mut a: Account, time: u64) {
     say::end();
 }
 
-// The account of image P with a credit, a microsecond before its last time, at it, one after it and at the last of all.
-fn around_500(credit: u32) {
-    let a = account_of(200, 0, 500, 0, credit);
+// An account a microsecond before its last time, at it, one after it and at the last of all.
+pub(crate) fn around_500(a: Account) {
     top_up_from_500(a, 499);
     top_up_from_500(a, 500);
     top_up_from_500(a, 501);
@@ -226,15 +239,15 @@ fn unit_short() -> Account {
 // The capacity of image P's account is 300000: at it, and a unit to either side; then the largest account.
 fn capacities() {
     say::text(b"# top up at capacity: credit time -> credit last\n");
-    around_500(300000);
-    around_500(299999);
-    around_500(300001);
+    around_500(image_p(0));
+    around_500(account_of(200, 0, 500, 0, 299999));
+    around_500(account_of(200, 0, 500, 0, 300001));
     top_up_from_500(largest(), 501);
     top_up_from_500(unit_short(), 500);
     top_up_from_500(unit_short(), 501);
 }
 
-// Unsound values, and as credit what the formula of the capacity gives of them.
+// Unsound values, and as credit what the formula of the capacity gives of them; of mode 4 without line octets and with.
 fn unsound_capacities() {
     say::text(b"# top up, unsound at capacity: credit time -> credit last\n");
     top_up_from_500(account_of(0, 0, 500, 0, 0), 501);
@@ -242,7 +255,8 @@ fn unsound_capacities() {
     top_up_from_500(account_of(1519, 0, 500, 0, 2278500), 501);
     top_up_from_500(account_of(200, 8, 500, 0, 51300000), 501);
     top_up_from_500(account_of(200, 0, 10001, 0, 2200200), 501);
-    top_up_from_500(account_of(200, 0, 500, 2, 300000), 501);
+    top_up_from_500(account_of(200, 0, 500, 4, 300000), 501);
+    top_up_from_500(account_of(200, 0, 500, 4, 330000), 501);
 }
 
 // Steps on full accounts; one of 300 octets costs all that image P's account can hold, one of 301 a thousand more. Then a

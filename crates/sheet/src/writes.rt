@@ -92,7 +92,32 @@ fn accounts() {
             0x00C8_00_FFFF_00_0300,
             0x00C8_00_01F4_01_0300,
             0x00C8_00_01F4_02_0300,
+            0x00C8_00_01F4_03_0300,
+            0x00C8_00_01F4_04_0300,
+            0x00C8_00_01F4_FF_0300,
             0x05EE_07_2710_01_0300,
+            0x05EE_07_2710_03_0300,
+            0x003F_00_01F4_02_0300,
+            0x003F_00_01F4_03_0300,
+            0x05EF_00_01F4_02_0300,
+            0x05EF_00_01F4_03_0300,
+            0x00C8_08_01F4_02_0300,
+            0x00C8_00_2711_03_0300,
+        ],
+    );
+}
+
+// Smax and mode of the first account, on which both links have sizes up to 200.
+fn own_smax() {
+    values(
+        11,
+        &[
+            0x00C7_00_01F4_00_0200,
+            0x00C7_00_01F4_02_0200,
+            0x00B4_00_01F4_02_0200,
+            0x00B4_00_01F4_03_0200,
+            0x00C8_00_01F4_02_0200,
+            0x00C8_00_01F4_03_0200,
         ],
     );
 }
@@ -200,7 +225,7 @@ fn faults() {
     write(29, 0x0007_20_0000_0008_00, 2, 2, 64);
     write(45, 0x0008_20_0000_0008_00, 2, 2, 64);
     // account 1 and link 0; constant and account 0
-    write(25, 0x02_0300_0D_0007_20_00, 2, 2, 64);
+    write(25, 0x04_0300_0D_0007_20_00, 2, 2, 64);
     write(4, 0x0000_0000_0200_06_FF, 2, 2, 64);
     // constant and a count; constant, account and link, and room
     write(0, 0x01_0005_01_0100_0000, 0, 2, 64);
@@ -208,6 +233,13 @@ fn faults() {
     write(0, 0x01_0005_01_0100_0000, 2, 2, 0);
     write(20, 0x00C8_08_01F4_00_0300, 2, 2, 0);
     write(45, 0x0008_20_0000_0008_00, 2, 2, 60);
+}
+
+// Account 1 in the last mode, and in none.
+fn modes() {
+    say::text(b"# write, modes\n");
+    write(20, 0x00C8_00_01F4_03_0300, 2, 2, 61);
+    write(20, 0x00C8_00_01F4_04_0300, 2, 2, 61);
 }
 
 // Counts at the limits and beyond, with rows enough, all of 0.
@@ -268,10 +300,12 @@ fn finds() {
 pub(crate) fn run() {
     heads();
     accounts();
+    own_smax();
     links();
     sizes();
     counts();
     faults();
+    modes();
     limits();
     finds();
 }

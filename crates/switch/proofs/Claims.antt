@@ -26,7 +26,7 @@ use Rattle.tables.specs.declared.Found.{Found}
 use Rattle.tables.specs.declared.Found.the-variants.{At, Nowhere}
 use Rattle.tables.specs.declared.Link.{Link}
 use Rattle.tables.proofs.Claims.{first-found, found-same}
-use Rattle.tables.proofs.Rules.{account-past, sound-port, sound-largest}
+use Rattle.tables.proofs.Rules.{account-past, sound-port, sound-sizes}
 use Rattle.switch.specs.declared.Verdict.{Verdict}
 use Rattle.switch.specs.declared.Verdict.the-variants.{Forwarded, Short, Late, Refused}
 use Rattle.switch.specs.Verdict.{Told, tells, told}
@@ -296,7 +296,7 @@ stored-below-capacity l used a n port t =
     (λ m.
     let k = eqb-true _ _ m in
     subst (Below a) (sym (decided-policed l used a n port t (b .0) (b .1) k))
-    (step-below-capacity a n t (le-trans (passed-largest l n port k) (sound-largest l used (a .smax) (b .0)))))
+    (step-below-capacity a n t (le-trans (passed-largest l n port k) (sound-sizes l used (a .smax) (b .0) .2))))
     (λ m.
     let k = eqb-false _ _ m in
     subst (Below a) (sym (decided-refused l used a n port t (b .0) (b .1) k)) (neither (portCode l n port) 0 9 k (λ q. omega (arith, port-code-high l n port)))))

@@ -7,13 +7,14 @@ use lib.Dec.{ltb, eqb}
 use borrow.Author.Tests.{ltb-true, ltb-false, eq-eqb, eqb-true, not-false}
 use Rattle.octets.proofs.Tests.{split}
 use Rattle.octets.specs.Choice.{if_then_else_}
-use Rattle.tables.specs.Rows.{Rows, linkTable, linkIn, linksInUse, otherNumber, rowOf, foundIn}
+use Rattle.tables.specs.Rows.{Rows, accountIn, linkTable, linkIn, linksInUse, otherNumber, rowOf, foundIn}
 use Rattle.tables.specs.Rules.{portsSound, sizesSound, linkSound}
-use Rattle.tables.specs.Claims.{FindsFirst, FindsNone, LinkRefused, LinkAccepted}
+use Rattle.tables.specs.Claims.{FindsFirst, FindsNone, SizesWithinSmax, LinkRefused, LinkAccepted}
 use Rattle.tables.specs.declared.Found.{Found}
 use Rattle.tables.specs.declared.Found.the-variants.{At, Nowhere}
 use Rattle.tables.specs.declared.Link.{Link}
 use Rattle.tables.proofs.Leading.{leading-before, leading-fails, leading-same}
+use Rattle.tables.proofs.Rules.{sound-sizes}
 
 -- what tells the answers apart
 abbrev at-row : Found → ℕ
@@ -67,6 +68,9 @@ finds-first links count x i = first-found (linkTable links) (linksInUse links co
 
 pub finds-none : FindsNone
 finds-none links count x = none-found (linkTable links) (linksInUse links count) x
+
+pub sizes-within-smax : SizesWithinSmax
+sizes-within-smax a l n j = sound-sizes (linkIn l j) n (accountIn a (linkIn l j .account) .smax)
 
 pub link-refused : LinkRefused
 unfolding portsSound sizesSound linkSound

@@ -70,11 +70,13 @@ module _ (l : Link) (n smax : ℕ) where
       let p = both (ltb (l .account) n) (portsSound (l .port) (l .mask)) (both _ (sizesSound (l .smallest) (l .largest) smax) e .0) .1 in
       ltb-true _ _ (both (ltb (l .port) portCount) _ (both _ (eqb (l .mask / 2 ^ l .port % 2) 0) p .0) .0)
 
-  pub sound-largest : linkSound l n smax ≡ true → l .largest ≤ smax
+  pub sound-sizes : linkSound l n smax ≡ true → (smallestFrame ≤ l .smallest) × (l .smallest ≤ l .largest) × (l .largest ≤ smax)
   unfolding linkSound sizesSound
-  sound-largest e =
-      leb-true _ _
-      (both (leb smallestFrame (l .smallest) && leb (l .smallest) (l .largest)) (leb (l .largest) smax) (both (ltb (l .account) n && portsSound (l .port) (l .mask)) (sizesSound (l .smallest) (l .largest) smax) e .1) .1)
+  sound-sizes e =
+      let s = both (ltb (l .account) n && portsSound (l .port) (l .mask)) (sizesSound (l .smallest) (l .largest) smax) e .1 in
+      let t = both (leb smallestFrame (l .smallest) && leb (l .smallest) (l .largest)) (leb (l .largest) smax) s in
+      let u = both (leb smallestFrame (l .smallest)) (leb (l .smallest) (l .largest)) (t .0) in
+      (leb-true _ _ (u .0), leb-true _ _ (u .1), leb-true _ _ (t .1))
 
 -- ---- rows with the same values
 pub account-good-same : (a b : Rows) (i j : ℕ) → accountIn a i ≡ accountIn b j → accountGood a i ≡ accountGood b j

@@ -1,10 +1,10 @@
 -- What holds of the search for a link's number, and the rules at both sides of their bounds; proved in proofs/Claims.antt.
-use Prim.Native.Nat.{ℕ, _<_}
+use Prim.Native.Nat.{ℕ, _≤_, _<_}
 use mathlib.Core.Bool.{true, false}
 use mathlib.Core.List.{List, [], _∷_, map}
 use mathlib.Core.Path.{_≡_}
-use Rattle.tables.specs.Rows.{linkTable, linkIn, linksInUse, found}
-use Rattle.tables.specs.Rules.{linkSound}
+use Rattle.tables.specs.Rows.{Rows, accountIn, linkTable, linkIn, linksInUse, found}
+use Rattle.tables.specs.Rules.{linkSound, linkRowSound}
 use Rattle.tables.specs.declared.Found.the-variants.{At, Nowhere}
 use Rattle.tables.specs.declared.Link.{Link}
 
@@ -21,6 +21,15 @@ abbrev pub FindsNone : Type 0
 FindsNone =
     (links : List ℕ) (count x : ℕ) → found links count x ≡ Nowhere
     → (j : ℕ) → j < linksInUse links count → linkIn (linkTable links) j .number ≡ x → ⊥
+
+-- the sizes of a sound link row are a frame's, and at most Smax as the row of its account has it: in modes with line octets too
+-- (document 02, Q-3)
+abbrev pub SizesWithinSmax : Type 0
+SizesWithinSmax =
+    (a l : Rows) (n j : ℕ) → linkRowSound a l n j ≡ true
+    → (64 ≤ linkIn l j .smallest)
+    × (linkIn l j .smallest ≤ linkIn l j .largest)
+    × (linkIn l j .largest ≤ accountIn a (linkIn l j .account) .smax)
 
 -- a link of number 7 with these values; judged among 2 accounts, Smax 200 for its own
 abbrev pub linkWith : ℕ → ℕ → ℕ → ℕ → ℕ → Link

@@ -45,11 +45,13 @@ static void account(void)
     uint64_t last = 0;
     printf("capacity %" PRIu32 "\n", ashthulgo_capacity(200, 0, 500, 0, 0));
     printf("cost %" PRIu32 " %" PRIu32 "\n", ashthulgo_cost(200, 0, 500, 0, 0, 64), ashthulgo_cost(200, 0, 500, 1, 0, 64));
+    printf("line octets %" PRIu32 " %" PRIu32 " %" PRIu32 "\n", ashthulgo_capacity(200, 0, 500, 2, 0),
+           ashthulgo_cost(200, 0, 500, 2, 0, 64), ashthulgo_cost(200, 0, 500, 3, 0, 64));
     ashthulgo_top_up(200, 0, 500, 0, &credit, &last, 499);
     printf("top up %" PRIu32 " %" PRIu64 "\n", credit, last);
     uint8_t code = ashthulgo_police(200, 0, 500, 0, &credit, &last, 200, 500, &told);
     printf("police %u %" PRIu32 " | %" PRIu32 " %" PRIu64 "\n", code, told, credit, last);
-    code = ashthulgo_police(200, 0, 500, 2, &credit, &last, 200, 500, &told);
+    code = ashthulgo_police(200, 0, 500, 4, &credit, &last, 200, 500, &told);
     printf("police %u %" PRIu32 " | %" PRIu32 " %" PRIu64 "\n", code, told, credit, last);
 }
 

@@ -29,14 +29,14 @@ pub struct Terms {
     pub k: u8,
     /// Allowed jitter, in microseconds.
     pub jitter: u16,
-    /// 0 byte mode, 1 frame mode.
+    /// 0 byte mode, 1 frame mode; 2 and 3 are these with line octets.
     pub mode: u8,
 }
 
 impl Terms {
     /// Could an accepted image hold these?
     fn accepted(&self) -> bool {
-        (64..=1_518).contains(&self.smax) && self.k <= 7 && self.jitter <= 10_000 && self.mode <= 1
+        (64..=1_518).contains(&self.smax) && self.k <= 7 && self.jitter <= 10_000 && self.mode <= 3
     }
 
     /// BAG in microseconds.
@@ -44,17 +44,31 @@ impl Terms {
         1_000 << self.k
     }
 
+    /// Octets added to each frame: its line octets, where they count.
+    fn added(&self) -> u128 {
+        match self.mode {
+            0 | 1 => 0,
+            _ => 20,
+        }
+    }
+
+    /// The greater Smax, with the octets added.
+    fn greater_smax(&self) -> u128 {
+        u128::from(self.smax) + self.added()
+    }
+
     /// What a frame of so many octets costs.
     fn cost(&self, octets: usize) -> u128 {
-        match self.mode {
-            0 => octets as u128 * self.bag(),
-            _ => u128::from(self.smax) * self.bag(),
-        }
+        let charged = match self.mode {
+            0 | 2 => octets as u128 + self.added(),
+            _ => self.greater_smax(),
+        };
+        charged * self.bag()
     }
 
     /// The most that may be spent over a stretch of so many microseconds.
     fn allowance(&self, since: u64) -> u128 {
-        u128::from(self.smax) * (self.bag() + u128::from(self.jitter) + u128::from(since))
+        self.greater_smax() * (self.bag() + u128::from(self.jitter) + u128::from(since))
     }
 }
 
@@ -240,4 +254,50 @@ pub fn step_codes(terms: &Terms, steps: &[(usize, u64)]) -> Vec<u8> {
         .iter()
         .map(|&(octets, time)| size_code(octets).unwrap_or_else(|| past.judge(octets, time)))
         .collect()
+}
+
+#[cfg(test)]
+mod tests {
+    use super::*;
+
+    /// The figures themselves: in frame mode line octets change no code, as both
+    /// sides of the rule grow alike.
+    #[test]
+    fn costs_and_allowances() {
+        for (mode, costs, allowances) in [
+            (0, [64_000, 200_000, 300_000], [300_000, 300_200, 500_000]),
+            (1, [200_000, 200_000, 200_000], [300_000, 300_200, 500_000]),
+            (2, [84_000, 220_000, 320_000], [330_000, 330_220, 550_000]),
+            (3, [220_000, 220_000, 220_000], [330_000, 330_220, 550_000]),
+        ] {
+            let terms = Terms {
+                smax: 200,
+                k: 0,
+                jitter: 500,
+                mode,
+            };
+            assert_eq!([64, 200, 300].map(|octets| terms.cost(octets)), costs);
+            let since = [0, 1, 1_000].map(|since| terms.allowance(since));
+            assert_eq!(since, allowances);
+        }
+    }
+
+    #[test]
+    fn the_widest_terms() {
+        for (mode, cost, allowance) in [
+            (0, 194_304_000, 209_484_000),
+            (1, 194_304_000, 209_484_000),
+            (2, 196_864_000, 212_244_000),
+            (3, 196_864_000, 212_244_000),
+        ] {
+            let terms = Terms {
+                smax: 1_518,
+                k: 7,
+                jitter: 10_000,
+                mode,
+            };
+            assert_eq!(terms.cost(1_518), cost);
+            assert_eq!(terms.allowance(0), allowance);
+        }
+    }
 }

@@ -10,6 +10,13 @@ const IMAGE_P: [u8; 36] = [
     0x09, 0x00, 0x00,
 ];
 
+/// The same in another mode.
+fn image_p(mode: u8) -> [u8; 36] {
+    let mut image = IMAGE_P;
+    image[16] = mode;
+    image
+}
+
 const TERMS_P: Terms = Terms {
     smax: 200,
     k: 0,
@@ -73,6 +80,65 @@ fn case_11_frame_mode() {
     );
     // Byte mode pays for four.
     assert_eq!(step_codes(&TERMS_P, &[(64, 0); 5]), [0, 0, 0, 0, 9]);
+}
+
+/// Cases 2 to 7 with line octets. From the first frame at 500: 440,000 <= 220 x
+/// 2,000. From it at 1,500: 660,000 <= 220 x 3,000. Each a microsecond early is
+/// 220 too little.
+#[test]
+fn line_octets() {
+    let codes = [0, 9, 0, 8, 9, 0];
+    for mode in [2, 3] {
+        let terms = Terms { mode, ..TERMS_P };
+        assert_eq!(step_codes(&terms, &STEPS[..6]), codes);
+        let calls: Vec<_> = STEPS[..6]
+            .iter()
+            .map(|&(octets, time)| (7, octets, 2, time))
+            .collect();
+        assert_eq!(judged(&image_p(mode), &calls), codes);
+    }
+}
+
+/// A frame of 64 octets costs 84,000.
+#[test]
+fn line_octets_in_byte_mode() {
+    let terms = Terms { mode: 2, ..TERMS_P };
+    // 330,000 pays for three, byte mode without line octets for four.
+    assert_eq!(step_codes(&terms, &[(64, 0); 4]), [0, 0, 0, 9]);
+    // Four cost 336,000 <= 220 x 1,528 = 336,160, but > 220 x 1,527 = 335,940.
+    let mut steps = vec![(64, 0); 3];
+    steps.extend([(64, 27), (64, 28)]);
+    assert_eq!(step_codes(&terms, &steps), [0, 0, 0, 9, 0]);
+    // A fifth: 420,000 <= 220 x 1,910 = 420,200, but > 220 x 1,909 = 419,980.
+    steps.extend([(64, 409), (64, 410)]);
+    assert_eq!(step_codes(&terms, &steps), [0, 0, 0, 9, 0, 9, 0]);
+    // Sizes: 310 octets just fit the allowance, as 330,000 = 330 x 1,000.
+    for (octets, code) in [(63, 1), (310, 0), (311, 9), (1_518, 9), (1_519, 2)] {
+        assert_eq!(step_codes(&terms, &[(octets, 0)]), [code]);
+    }
+}
+
+#[test]
+fn line_octets_in_frame_mode() {
+    let terms = Terms { mode: 3, ..TERMS_P };
+    // 330,000 pays for one frame of any size.
+    for octets in [64, 200, 1_518] {
+        let steps = [(octets, 0), (octets, 0), (64, 499), (64, 500)];
+        assert_eq!(step_codes(&terms, &steps), [0, 9, 9, 0]);
+    }
+    for (octets, code) in [(63, 1), (1_519, 2)] {
+        assert_eq!(step_codes(&terms, &[(octets, 0)]), [code]);
+    }
+}
+
+/// A link's sizes are not moved by line octets.
+#[test]
+fn line_octets_are_not_sizes() {
+    for mode in 0..=3 {
+        for (octets, code) in [(63, 1), (64, 0), (200, 0), (201, 7), (220, 7), (1_519, 2)] {
+            assert_eq!(judged(&image_p(mode), &[(7, octets, 2, 0)]), [code]);
+        }
+    }
 }
 
 #[test]
@@ -193,6 +259,28 @@ fn the_middle_frame_decides() {
     assert_eq!(step_codes(&terms, &steps), [0, 0, 9, 0]);
 }
 
+/// The same with line octets: with Smax 100 a frame of 100 octets costs 120,000,
+/// one of 64 octets 84,000, and a microsecond is worth 120.
+#[test]
+fn the_middle_frame_decides_with_line_octets() {
+    let terms = Terms {
+        smax: 100,
+        k: 0,
+        jitter: 0,
+        mode: 2,
+    };
+    // From the frame at 100,000: 204,000 <= 120 x (1,000 + 700), not with 699.
+    let steps = [(100, 0), (100, 100_000), (64, 100_699), (64, 100_700)];
+    assert_eq!(step_codes(&terms, &steps), [0, 0, 9, 0]);
+    // From 700 there is room at 1,399, from 0 not: 288,000 > 120 x 2,399.
+    let steps = [(100, 0), (64, 700), (64, 1_399), (64, 1_400)];
+    assert_eq!(step_codes(&terms, &steps), [0, 0, 9, 0]);
+    // In frame mode each costs 120,000, a microsecond's worth a thousand times.
+    let terms = Terms { mode: 3, ..terms };
+    let steps = [(100, 0), (64, 999), (64, 1_000), (100, 1_999), (64, 2_000)];
+    assert_eq!(step_codes(&terms, &steps), [0, 9, 0, 9, 0]);
+}
+
 #[test]
 fn times_at_the_far_end() {
     let steps = [
@@ -203,19 +291,21 @@ fn times_at_the_far_end() {
         (200, 0),
     ];
     assert_eq!(step_codes(&TERMS_P, &steps), [0, 9, 0, 9, 8]);
-    let widest = Terms {
-        smax: 1_518,
-        k: 7,
-        jitter: 10_000,
-        mode: 0,
-    };
-    let steps = [
-        (1_518, 0),
-        (1_518, 117_999),
-        (1_518, 118_000),
-        (1_518, u64::MAX),
-    ];
-    assert_eq!(step_codes(&widest, &steps), [0, 9, 0, 0]);
+    for mode in 0..=3 {
+        let widest = Terms {
+            smax: 1_518,
+            k: 7,
+            jitter: 10_000,
+            mode,
+        };
+        let steps = [
+            (1_518, 0),
+            (1_518, 117_999),
+            (1_518, 118_000),
+            (1_518, u64::MAX),
+        ];
+        assert_eq!(step_codes(&widest, &steps), [0, 9, 0, 0]);
+    }
 }
 
 /// Two accounts, links 1 and 3 on the first, 2 on the second.
@@ -250,6 +340,12 @@ fn accounts_apart_and_shared() {
 #[should_panic]
 fn terms_of_no_image() {
     step_codes(&Terms { k: 8, ..TERMS_P }, &[]);
+}
+
+#[test]
+#[should_panic]
+fn a_mode_of_no_image() {
+    step_codes(&Terms { mode: 4, ..TERMS_P }, &[]);
 }
 
 #[test]

@@ -4,7 +4,8 @@
 
 use crate::frame::size_refusal;
 use crate::rules::{
-    BAG_UNIT, JITTER_MAX, K_MAX, MODE_BYTE, MODE_FRAME, SMAX_MAX, SMAX_MIN, UNSOUND,
+    BAG_UNIT, JITTER_MAX, K_MAX, LINE_OCTETS, MODE_BYTE, MODE_BYTE_LINE, MODE_FRAME,
+    MODE_FRAME_LINE, SMAX_MAX, SMAX_MIN, UNSOUND,
 };
 
 /// One policing account: its fixed terms, its credit and its last time.
@@ -16,7 +17,7 @@ pub struct Account {
     pub k: u8,
     /// Allowed jitter, in microseconds.
     pub jitter: u16,
-    /// 0 byte mode, 1 frame mode.
+    /// 0 byte mode, 1 frame mode; 2 and 3 the same with line octets.
     pub mode: u8,
     /// Credit held.
     pub credit: u32,
@@ -52,7 +53,10 @@ impl Account {
         (SMAX_MIN..=SMAX_MAX).contains(&self.smax)
             && self.k <= K_MAX
             && self.jitter <= JITTER_MAX
-            && matches!(self.mode, MODE_BYTE | MODE_FRAME)
+            && matches!(
+                self.mode,
+                MODE_BYTE | MODE_FRAME | MODE_BYTE_LINE | MODE_FRAME_LINE
+            )
     }
 
     /// BAG in microseconds. Only for terms that hold.
@@ -61,38 +65,52 @@ impl Account {
         BAG_UNIT << self.k
     }
 
+    /// Octets charged for a frame beyond its own.
+    #[inline]
+    fn charge(&self) -> u32 {
+        match self.mode {
+            MODE_BYTE_LINE | MODE_FRAME_LINE => LINE_OCTETS,
+            _ => 0,
+        }
+    }
+
+    /// What a microsecond earns: Smax with the charge.
+    #[inline]
+    fn rate(&self) -> u32 {
+        u32::from(self.smax) + self.charge()
+    }
+
     /// The capacity of a sound account, `None` for one that gets code 10.
     #[inline(always)]
     pub(crate) fn sound_capacity(&self) -> Option<u32> {
         if !self.terms_hold() {
             return None;
         }
-        let capacity = u32::from(self.smax) * (self.bag() + u32::from(self.jitter));
+        let capacity = self.rate() * (self.bag() + u32::from(self.jitter));
         (self.credit <= capacity).then_some(capacity)
     }
 
     /// What a frame costs. Only for terms that hold and a frame's size.
     #[inline]
     fn price(&self, octets: usize) -> u32 {
-        let charged = if self.mode == MODE_BYTE {
-            octets as u32
-        } else {
-            u32::from(self.smax)
+        let octets = match self.mode {
+            MODE_BYTE | MODE_BYTE_LINE => octets as u32,
+            _ => u32::from(self.smax),
         };
-        charged * self.bag()
+        (octets + self.charge()) * self.bag()
     }
 
     /// Refills up to `capacity`. Only for a time not before the last one.
     #[inline]
     fn refill(&mut self, time: u64, capacity: u32) {
-        let earned = u64::from(self.smax).saturating_mul(time - self.last);
+        let earned = u64::from(self.rate()).saturating_mul(time - self.last);
         let credit = u64::from(self.credit).saturating_add(earned);
         self.credit = credit.min(u64::from(capacity)) as u32;
         self.last = time;
     }
 
     /// The step itself, once size and account are known to be good.
-    #[inline]
+    #[inline(always)]
     pub(crate) fn settle(&mut self, octets: usize, time: u64, capacity: u32) -> Settled {
         if time < self.last {
             return Settled::Late(self.credit);

@@ -1,4 +1,5 @@
-//! The numbers of document 01: limits and answer codes; those of request Q-1.
+//! The numbers of document 01: limits and answer codes; those of requests Q-1
+//! and Q-3.
 
 /// Shortest frame, in octets.
 pub const FRAME_MIN: usize = 64;
@@ -17,6 +18,11 @@ pub const JITTER_MAX: u16 = 10_000;
 /// Byte mode charges a frame's octets, frame mode always Smax.
 pub const MODE_BYTE: u8 = 0;
 pub const MODE_FRAME: u8 = 1;
+/// Both again, with line octets.
+pub const MODE_BYTE_LINE: u8 = 2;
+pub const MODE_FRAME_LINE: u8 = 3;
+/// What a frame takes on the line beyond its own octets.
+pub const LINE_OCTETS: u32 = 20;
 /// Highest port number.
 pub const PORT_MAX: u8 = 31;
 

@@ -2,7 +2,7 @@
 
 mod common;
 
-use common::{frame, fresh, Switch, IMAGE_P, MASK};
+use common::{frame, fresh, image_p, Switch, IMAGE_P, MASK};
 use policer::{check, header, payload, Account, Loaded, Outcome, Verdict};
 
 /// Cases 2 to 10: octets, time, code, credit.
@@ -84,10 +84,8 @@ fn case_11_frame_mode() {
         fresh(200, 0, 500, 1).police(64, 0),
         Outcome::Forwarded(100_000)
     );
-    let mut image = IMAGE_P;
-    image[16] = 1;
     assert_eq!(
-        Switch::load(&image).call(&frame(7, 64), 2, 0),
+        Switch::load(&image_p(1)).call(&frame(7, 64), 2, 0),
         Verdict::Forwarded {
             mask: MASK,
             credit: 100_000

@@ -3,7 +3,8 @@
 mod common;
 
 use common::{
-    account_row, frame, frame_of, image_of, Dice, LinkRow, Switch, CONSTANT, IMAGE_P, LINK_7, MASK,
+    account_row, frame, frame_of, image_of, image_p, Dice, LinkRow, Switch, CONSTANT, IMAGE_P,
+    LINK_7, MASK,
 };
 use policer::Verdict;
 
@@ -42,11 +43,13 @@ fn smallest_size_before_late_and_after_port() {
     switch.expect(&frame(7, 100), 2, 99, 8);
     switch.expect(&frame(7, 99), 2, 100, 6);
     switch.expect(&frame(7, 100), 2, 100, 9);
-    // Frame mode asks for the size just the same.
-    let mut switch = Switch::of(&account_row(200, 0, 500, 1), &link);
-    switch.credits[0] = 300_000;
-    switch.expect(&frame(7, 99), 2, 0, 6);
-    switch.expect(&frame(7, 100), 2, 0, 0);
+    // The other modes ask for the size just the same.
+    for mode in 1..=3 {
+        let mut switch = Switch::of(&account_row(200, 0, 500, mode), &link);
+        switch.credits[0] = 300_000;
+        switch.expect(&frame(7, 99), 2, 0, 6);
+        switch.expect(&frame(7, 100), 2, 0, 0);
+    }
 }
 
 #[test]
@@ -58,7 +61,9 @@ fn sizes_from_0_up() {
             201..=1_518 => 7,
             _ => 2,
         };
-        Switch::load(&IMAGE_P).expect(&frame(7, octets), 2, 0, code);
+        for mode in 0..=3 {
+            Switch::load(&image_p(mode)).expect(&frame(7, octets), 2, 0, code);
+        }
     }
 }
 
@@ -141,24 +146,50 @@ fn link_rules() {
     }
 }
 
+/// A link's sizes go up to Smax in every mode, not up to Smax with line octets.
+#[test]
+fn line_octets_are_not_sizes() {
+    for mode in 0..=3 {
+        let account = account_row(200, 0, 500, mode);
+        Switch::of(&account, &LINK_7.largest(200)).expect(&frame(7, 64), 99, 0, 5);
+        for largest in [201, 219, 220, 221] {
+            let link = LINK_7.largest(largest);
+            Switch::of(&account, &link).expect(&frame(7, 64), 2, 0, 10);
+        }
+        Switch::of(&account, &LINK_7.smallest(44)).expect(&frame(7, 64), 2, 0, 10);
+    }
+}
+
 #[test]
 fn account_rules() {
     for (row, credit, code) in [
         (account_row(200, 0, 500, 0), 300_000, 5),
         (account_row(200, 7, 10_000, 1), 27_600_000, 5),
         (account_row(1_518, 7, 10_000, 1), 209_484_000, 5),
+        (account_row(200, 0, 500, 2), 330_000, 5),
+        (account_row(200, 7, 10_000, 3), 30_360_000, 5),
+        (account_row(1_518, 7, 10_000, 2), 212_244_000, 5),
+        (account_row(1_518, 7, 10_000, 3), 212_244_000, 5),
+        (account_row(200, 0, 500, 2), 330_001, 10),
+        (account_row(200, 7, 10_000, 3), 30_360_001, 10),
+        (account_row(1_518, 7, 10_000, 2), 212_244_001, 10),
+        (account_row(1_518, 7, 10_000, 3), 212_244_001, 10),
         (account_row(200, 0, 500, 0), 300_001, 10),
         (account_row(200, 7, 10_000, 1), 27_600_001, 10),
         (account_row(1_518, 7, 10_000, 1), 209_484_001, 10),
         (account_row(200, 0, 500, 0), u32::MAX, 10),
         (account_row(199, 0, 500, 0), 0, 10), // below the link's largest
+        (account_row(199, 0, 500, 2), 0, 10),
+        (account_row(199, 0, 500, 3), 0, 10),
         (account_row(1_519, 0, 500, 0), 0, 10),
+        (account_row(1_519, 0, 500, 3), 0, 10),
         (account_row(u16::MAX, 0, 500, 0), 0, 10),
         (account_row(200, 8, 500, 0), 0, 10),
         (account_row(200, 255, 500, 0), 0, 10),
         (account_row(200, 0, 10_001, 0), 0, 10),
         (account_row(200, 0, u16::MAX, 0), 0, 10),
-        (account_row(200, 0, 500, 2), 0, 10),
+        (account_row(200, 0, 500, 4), 0, 10),
+        (account_row(200, 0, 500, 5), 0, 10),
         (account_row(200, 0, 500, 255), 0, 10),
     ] {
         let mut switch = Switch::of(&row, &LINK_7);
@@ -295,6 +326,41 @@ fn short_credit_brings_the_account_to_the_time() {
     assert_eq!((switch.credits[0], switch.lasts[0]), (199_800, 499));
 }
 
+/// Modes 2 and 3 of image P, whose capacity is 330,000: a frame at the cost, a
+/// microsecond early, and the account after each.
+#[test]
+fn line_octets_are_charged() {
+    for (mode, octets) in [(2, 200), (3, 200), (3, 64)] {
+        let mut switch = Switch::load(&image_p(mode));
+        assert_eq!((switch.credits[0], switch.lasts[0]), (330_000, 0));
+        let frame = frame(7, octets);
+        let forwarded = |credit| Verdict::Forwarded { mask: MASK, credit };
+        for (time, verdict) in [
+            (0, forwarded(110_000)),
+            (499, Verdict::Short(219_780)),
+            (500, forwarded(0)),
+            (1_499, Verdict::Short(219_780)),
+            (1_500, forwarded(0)),
+            (u64::MAX, forwarded(110_000)),
+        ] {
+            assert_eq!(switch.call(&frame, 2, time), verdict);
+            let credit = verdict.credit().unwrap();
+            assert_eq!((switch.credits[0], switch.lasts[0]), (credit, time));
+        }
+        assert_eq!(switch.call(&frame, 2, 0), Verdict::Late(110_000));
+    }
+    // Frames of 64 octets, each with 20 more; then one a unit short, and one not.
+    let mut switch = Switch::load(&image_p(2));
+    for credit in [246_000, 162_000, 78_000] {
+        assert_eq!(switch.call(&frame(7, 64), 2, 0).credit(), Some(credit));
+    }
+    switch.credits[0] = 83_999;
+    assert_eq!(switch.call(&frame(7, 64), 2, 0), Verdict::Short(83_999));
+    switch.credits[0] = 84_000;
+    switch.expect(&frame(7, 64), 2, 0, 0);
+    assert_eq!(switch.credits, [0]);
+}
+
 #[test]
 fn accounts_keep_their_own_times() {
     let mut switch = Switch::load(&image_of(2, 4));
@@ -375,15 +441,20 @@ impl Wide {
         1_000 * 2i128.pow(self.k as u32)
     }
 
+    /// Line octets, by the modes that have them.
+    fn charge(&self) -> i128 {
+        20 * (self.mode / 2)
+    }
+
     fn capacity(&self) -> i128 {
-        self.smax * (self.bag() + self.jitter)
+        (self.smax + self.charge()) * (self.bag() + self.jitter)
     }
 
     fn unsound(&self) -> bool {
         let bad_account = !(64..=1_518).contains(&self.smax)
             || self.k > 7
             || self.jitter > 10_000
-            || self.mode > 1;
+            || self.mode > 3;
         let bad_link = self.port > 31
             || self.mask == 0
             || self.mask / 2i128.pow(self.port as u32) % 2 == 1
@@ -395,9 +466,14 @@ impl Wide {
 
     /// The verdict of a frame that isn't late.
     fn judge(&self, octets: i128, elapsed: i128) -> Verdict {
-        let full = self.capacity().min(self.held + self.smax * elapsed);
-        let charged = if self.mode == 0 { octets } else { self.smax };
-        let left = full - charged * self.bag();
+        let rate = self.smax + self.charge();
+        let full = self.capacity().min(self.held + rate * elapsed);
+        let octets = if self.mode % 2 == 0 {
+            octets
+        } else {
+            self.smax
+        };
+        let left = full - (octets + self.charge()) * self.bag();
         if left < 0 {
             return Verdict::Short(full as u32);
         }
@@ -501,7 +577,7 @@ fn made_up_account(dice: &mut Dice) -> Vec<u8> {
     let smax = dice.mostly(200, &[63, 64, 199, 201, 1_518, 1_519]);
     let k = dice.mostly(0, &[1, 6, 7, 8, 255]);
     let jitter = dice.mostly(500, &[0, 10_000, 10_001]);
-    let mode = dice.mostly(0, &[1, 1, 2]);
+    let mode = dice.pick(&[0, 1, 2, 3, 0, 1, 2, 3, 0, 1, 2, 3, 4, 255]);
     account_row(smax, k, jitter, mode)
 }
 
@@ -536,6 +612,7 @@ fn made_up_call(dice: &mut Dice, switch: &Switch) -> (Vec<u8>, u32, u64) {
 fn agrees_with_another_spelling() {
     let mut dice = Dice(77);
     let mut seen = [0u32; 11];
+    let mut reached = [[0u32; 11]; 4];
     for _ in 0..100_000 {
         let mut switch = made_up(&mut dice);
         let (frame, port, time) = made_up_call(&mut dice, &switch);
@@ -544,6 +621,8 @@ fn agrees_with_another_spelling() {
         if let Some(index) = changed {
             after.credits[index] = verdict.credit().unwrap();
             after.lasts[index] = time;
+            let mode = switch.accounts[6 * index + 5];
+            reached[usize::from(mode)][usize::from(verdict.code())] += 1;
         }
         assert_eq!(switch.call(&frame, port, time), verdict);
         assert_eq!(switch, after);
@@ -551,5 +630,14 @@ fn agrees_with_another_spelling() {
     }
     for (code, count) in seen.iter().enumerate() {
         assert!(*count > 500, "code {code} came up {count} times");
+    }
+    for (mode, reached) in reached.iter().enumerate() {
+        for code in [0, 9] {
+            let count = reached[code];
+            assert!(
+                count > 250,
+                "mode {mode}: code {code} came up {count} times"
+            );
+        }
     }
 }

@@ -127,14 +127,21 @@ fn head_values() {
 fn account_values() {
     for (row, good) in [
         (account_row(200, 7, 10_000, 1), true),
+        (account_row(200, 7, 10_000, 2), true),
+        (account_row(200, 7, 10_000, 3), true),
         (account_row(1_518, 0, 0, 0), true),
+        (account_row(1_518, 0, 0, 2), true),
+        (account_row(1_518, 0, 0, 3), true),
         (account_row(1_519, 0, 0, 0), false),
+        (account_row(1_519, 0, 0, 3), false),
         (account_row(63, 0, 0, 0), false),
+        (account_row(63, 0, 0, 2), false),
         (account_row(0, 0, 0, 0), false),
         (account_row(200, 8, 0, 0), false),
         (account_row(200, 255, 0, 0), false),
         (account_row(200, 0, 10_001, 0), false),
-        (account_row(200, 0, 0, 2), false),
+        (account_row(200, 0, 0, 4), false),
+        (account_row(200, 0, 0, 255), false),
     ] {
         let image = joined(&[head(), account(), field(2, &row), link(7), end()]);
         assert_eq!(answer(&image), if good { (0, 45) } else { (23, 17) });
@@ -145,8 +152,31 @@ fn account_values() {
     assert_eq!(answer(&image), (0, 36));
 }
 
+/// Every mode octet, in the first and in the last account.
+#[test]
+fn modes() {
+    let tables = Switch::load(&image_of(3, 1));
+    for index in [0, 2] {
+        for mode in 0..=255 {
+            let place = 8 + 9 * index;
+            let mut image = image_of(3, 1);
+            image[place + 8] = mode;
+            let mut switch = tables.clone();
+            switch.accounts[6 * index + 5] = mode;
+            if mode <= 3 {
+                assert_eq!(answer(&image), (0, image.len()));
+                round_trip(&image);
+                assert_eq!(Switch::load(&image).accounts, switch.accounts);
+            } else {
+                assert_eq!(answer(&image), (23, place));
+                refuses(&switch.config(), image.len(), 23, place);
+            }
+        }
+    }
+}
+
 /// Links behind link 5, accounts 0 and 1 having Smax 200 and 300: good or not.
-const LINK_CASES: [(LinkRow, bool); 25] = [
+const LINK_CASES: [(LinkRow, bool); 27] = [
     (LINK_7, true),
     (LINK_7.number(6), true),
     (LINK_7.number(5), false),
@@ -166,27 +196,37 @@ const LINK_CASES: [(LinkRow, bool); 25] = [
     (LINK_7.largest(63), false),
     (LINK_7.largest(64), true),
     (LINK_7.largest(201), false),
+    (LINK_7.largest(220), false),
     (LINK_7.account(1), true),
     (LINK_7.account(1).largest(300), true),
     (LINK_7.account(1).largest(301), false),
+    (LINK_7.account(1).largest(320), false),
     (LINK_7.account(2), false),
     (LINK_7.account(256), false),
     (LINK_7.account(u16::MAX), false),
 ];
 
+/// The accounts of these cases, in one mode.
+fn case_accounts(mode: u8) -> [Vec<u8>; 2] {
+    [account_row(200, 0, 500, mode), account_row(300, 0, 0, mode)]
+}
+
 #[test]
 fn link_values() {
     for (index, (row, good)) in LINK_CASES.into_iter().enumerate() {
-        let image = joined(&[
-            head(),
-            account(),
-            field(2, &account_row(300, 0, 0, 0)),
-            link(5),
-            field(3, &row.row()),
-            end(),
-        ]);
-        let expected = if good { (0, 61) } else { (23, 42) };
-        assert_eq!(answer(&image), expected, "case {index}");
+        for mode in 0..=3 {
+            let [first, second] = case_accounts(mode);
+            let image = joined(&[
+                head(),
+                field(2, &first),
+                field(2, &second),
+                link(5),
+                field(3, &row.row()),
+                end(),
+            ]);
+            let expected = if good { (0, 61) } else { (23, 42) };
+            assert_eq!(answer(&image), expected, "case {index}, mode {mode}");
+        }
     }
     // One account past the last, where the first link's number could pass for
     // an Smax.
@@ -253,12 +293,14 @@ fn loading_fills_the_named_rows() {
     let mut image = open_image(0, 0);
     image.extend(field(2, &account_row(200, 0, 500, 0)));
     image.extend(field(2, &account_row(1_518, 7, 10_000, 1)));
+    image.extend(field(2, &account_row(200, 0, 500, 2)));
+    image.extend(field(2, &account_row(1_518, 7, 10_000, 3)));
     image.extend(link(7));
     image.extend(link(9));
     image.extend(link(11));
     image.extend(end());
-    let (mut accounts, mut links) = (vec![0xEE; 20], vec![0xEE; 60]);
-    let (mut credits, mut lasts) = (vec![u32::MAX; 4], vec![u64::MAX; 3]);
+    let (mut accounts, mut links) = (vec![0xEE; 32], vec![0xEE; 60]);
+    let (mut credits, mut lasts) = (vec![u32::MAX; 6], vec![u64::MAX; 5]);
     let loaded = load(&image, &mut accounts, &mut credits, &mut lasts, &mut links);
     assert_eq!(
         loaded,
@@ -266,20 +308,24 @@ fn loading_fills_the_named_rows() {
             code: 0,
             offset: image.len(),
             constant: 0x0300_0000,
-            accounts: 2,
+            accounts: 4,
             links: 3
         }
     );
-    assert_eq!(accounts[..6], image[11..17]);
-    assert_eq!(accounts[6..12], image[20..26]);
-    assert_eq!(accounts[12..], [0xEE; 8]);
+    for index in 0..4 {
+        let place = 8 + 9 * index + 3;
+        assert_eq!(accounts[6 * index..6 * index + 6], image[place..place + 6]);
+    }
+    assert_eq!(accounts[24..], [0xEE; 8]);
     for index in 0..3 {
-        let place = 8 + 18 + 16 * index + 3;
+        let place = 8 + 36 + 16 * index + 3;
         assert_eq!(links[13 * index..13 * index + 13], image[place..place + 13]);
     }
     assert_eq!(links[39..], [0xEE; 21]);
-    assert_eq!(credits, [300_000, 209_484_000, u32::MAX, u32::MAX]);
-    assert_eq!(lasts, [0, 0, u64::MAX]);
+    assert_eq!(credits[..2], [300_000, 209_484_000]);
+    assert_eq!(credits[2..4], [330_000, 212_244_000]);
+    assert_eq!(credits[4..], [u32::MAX; 2]);
+    assert_eq!(lasts, [0, 0, 0, 0, u64::MAX]);
 }
 
 #[test]
@@ -420,7 +466,7 @@ fn writer_constant() {
     let mut switch = Switch::load(&image_of(3, 4));
     let length = image_of(3, 4).len();
     switch.links[2] = 32;
-    switch.accounts[5] = 2;
+    switch.accounts[5] = 4;
     for constant in [0, 0x0100_0000, 0x0200_0000, 0xFC00_0003, 0x00FF_FFFF] {
         switch.constant = constant;
         refuses(&switch.config(), length, 23, 0);
@@ -439,7 +485,7 @@ fn writer_values() {
         refuses(&spoiled.config(), 0, 23, 8 + 27 + 16 * index);
     }
     for index in (0..3).rev() {
-        spoiled.accounts[6 * index + 5] = 2;
+        spoiled.accounts[6 * index + 5] = 4;
         refuses(&spoiled.config(), length, 23, 8 + 9 * index);
         refuses(&spoiled.config(), 0, 23, 8 + 9 * index);
     }
@@ -466,18 +512,21 @@ fn writer_keeps_to_the_counts() {
 #[test]
 fn writer_link_values() {
     for (index, (row, good)) in LINK_CASES.into_iter().enumerate() {
-        let switch = Switch {
-            constant: 0x0300_0000,
-            accounts: [account_row(200, 0, 500, 0), account_row(300, 0, 0, 0)].concat(),
-            account_count: 2,
-            links: [LINK_7.number(5).row(), row.row()].concat(),
-            link_count: 2,
-            credits: vec![],
-            lasts: vec![],
-        };
-        let written = write(&switch.config(), &mut [0; 100]);
-        let expected = if good { (0, 61) } else { (23, 42) };
-        assert_eq!((written.code, written.offset), expected, "case {index}");
+        for mode in 0..=3 {
+            let switch = Switch {
+                constant: 0x0300_0000,
+                accounts: case_accounts(mode).concat(),
+                account_count: 2,
+                links: [LINK_7.number(5).row(), row.row()].concat(),
+                link_count: 2,
+                credits: vec![],
+                lasts: vec![],
+            };
+            let written = write(&switch.config(), &mut [0; 100]);
+            let written = (written.code, written.offset);
+            let expected = if good { (0, 61) } else { (23, 42) };
+            assert_eq!(written, expected, "case {index}, mode {mode}");
+        }
     }
 }
 

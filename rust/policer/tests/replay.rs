@@ -6,7 +6,7 @@ use std::fs;
 use std::path::PathBuf;
 use std::process::Command;
 
-use common::{end, field, frame, image_of, open_image, Dice, IMAGE_P, LINK_7};
+use common::{end, field, frame, image_of, image_p, open_image, Dice, IMAGE_P, LINK_7};
 
 /// A folder that goes away with the test.
 struct Folder(PathBuf);
@@ -73,6 +73,24 @@ const CASE_14: &str = "\
 #[test]
 fn bench_case_14() {
     assert_eq!(run("case14", &IMAGE_P, &case_14()), CASE_14);
+}
+
+#[test]
+fn line_octets() {
+    let expected = "\
+# frame code credit
+1 0 110000
+2 9 219780
+3 0 0
+4 8 0
+5 4 -
+";
+    for mode in [2, 3] {
+        assert_eq!(run("line", &image_p(mode), &case_14()), expected);
+    }
+    for mode in [4, 255] {
+        assert_eq!(run("line", &image_p(mode), &case_14()), "image 23 8\n");
+    }
 }
 
 #[test]

@@ -11,7 +11,7 @@ pub fn account(r: &mut Random, a: &mut AccountRow) {
         1 => a.smax = r.pick(&[1_519, 1_519, u16::MAX]),
         2 => a.k = r.pick(&[8, 8, 9, 31, 32, 64, u8::MAX]),
         3 => a.jitter = r.pick(&[10_001, 10_001, u16::MAX]),
-        _ => a.mode = r.pick(&[2, 2, u8::MAX]),
+        _ => a.mode = r.near(&[4, 4, 5, 6, 7, 255], 4, 255) as u8,
     }
 }
 

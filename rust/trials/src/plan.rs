@@ -24,19 +24,44 @@ impl AccountRow {
         (self.k <= 7).then(|| 1_000 << self.k)
     }
 
-    /// Smax x (BAG + J); none where k is above its limit.
+    /// The line octets that modes 2 and 3 add to a frame.
+    fn line_octets(&self) -> u64 {
+        if matches!(self.mode, 2 | 3) {
+            20
+        } else {
+            0
+        }
+    }
+
+    /// Credit earned in a microsecond: Smax, with line octets in their modes.
+    pub fn rate(&self) -> u64 {
+        u64::from(self.smax) + self.line_octets()
+    }
+
+    /// The rate x (BAG + J); none where k is above its limit.
     pub fn capacity(&self) -> Option<u64> {
-        Some(u64::from(self.smax) * (self.bag()? + u64::from(self.jitter)))
+        Some(self.rate() * (self.bag()? + u64::from(self.jitter)))
     }
 
     /// What a frame of so many octets costs; none where k is above its limit or the cost beyond any number.
-    pub(crate) fn cost(&self, octets: usize) -> Option<u64> {
-        let charged = if self.mode == 0 {
-            octets as u64
+    pub fn cost(&self, octets: usize) -> Option<u64> {
+        let charged = if matches!(self.mode, 0 | 2) {
+            self.line_octets().checked_add(octets as u64)?
         } else {
-            u64::from(self.smax)
+            self.rate()
         };
         charged.checked_mul(self.bag()?)
+    }
+
+    /// Reads a row.
+    pub fn of(row: &[u8; 6]) -> Self {
+        let [s0, s1, k, j0, j1, mode] = *row;
+        AccountRow {
+            smax: u16::from_be_bytes([s0, s1]),
+            k,
+            jitter: u16::from_be_bytes([j0, j1]),
+            mode,
+        }
     }
 
     fn octets(&self) -> [u8; 6] {
@@ -112,4 +137,31 @@ pub fn put_record(log: &mut Vec<u8>, time: u64, port: u8, frame: &[u8]) {
     log.extend(time.to_be_bytes());
     log.push(port);
     log.extend(frame);
+}
+
+#[cfg(test)]
+mod tests {
+    use super::*;
+
+    /// What frames are aimed by, in each mode: Smax 200, BAG 1,000, jitter 500.
+    #[test]
+    fn figures_by_mode() {
+        for (mode, rate, capacity, costs) in [
+            (0, 200, 300_000, [64_000, 200_000]),
+            (1, 200, 300_000, [200_000, 200_000]),
+            (2, 220, 330_000, [84_000, 220_000]),
+            (3, 220, 330_000, [220_000, 220_000]),
+        ] {
+            let row = AccountRow {
+                smax: 200,
+                k: 0,
+                jitter: 500,
+                mode,
+            };
+            assert_eq!(row.rate(), rate);
+            assert_eq!(row.capacity(), Some(capacity));
+            assert_eq!([64, 200].map(|octets| row.cost(octets)), costs.map(Some));
+            assert_eq!(AccountRow::of(&row.octets()), row);
+        }
+    }
 }

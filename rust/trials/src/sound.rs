@@ -13,7 +13,7 @@ pub fn account(r: &mut Random) -> AccountRow {
         smax: r.near(&[64, 65, 200, 1_517, 1_518], 64, 1_518) as u16,
         k: r.near(&[0, 7], 0, 7) as u8,
         jitter: r.near(&[0, 1, 9_999, 10_000], 0, 10_000) as u16,
-        mode: r.below(2) as u8,
+        mode: r.below(4) as u8,
     }
 }
 

@@ -17,18 +17,18 @@ pub const SIZE_EDGES: [usize; 12] = [0, 1, 5, 6, 7, 63, 64, 65, 1_517, 1_518, 1_
 /// The first time, not before the last, at which the credit suffices for a frame; none where it never does.
 fn first_allowed(a: &AccountRow, credit: u32, last: u64, octets: usize) -> Option<u64> {
     let cost = a.cost(octets)?;
-    if a.smax == 0 || cost > a.capacity()? {
+    if a.rate() == 0 || cost > a.capacity()? {
         return None;
     }
     let missing = cost.saturating_sub(credit.into());
-    last.checked_add(missing.div_ceil(a.smax.into()))
+    last.checked_add(missing.div_ceil(a.rate()))
 }
 
 /// A gap after which an amount earned, or a gap cut short, comes to little where it wraps (document 01, case 10).
-fn long_gap(r: &mut Random, smax: u16) -> u64 {
-    let smax = u64::from(smax.max(1));
+fn long_gap(r: &mut Random, rate: u64) -> u64 {
+    let rate = rate.max(1);
     let power = 1 << r.within(32, 63);
-    let gap = r.pick(&[1 << 32, 1 << 63, power, (1 << 32) / smax, u64::MAX / smax]);
+    let gap = r.pick(&[1 << 32, 1 << 63, power, (1 << 32) / rate, u64::MAX / rate]);
     gap.saturating_add(r.below(3))
 }
 
@@ -37,7 +37,7 @@ pub fn time(r: &mut Random, a: &AccountRow, credit: u32, last: u64, octets: usiz
     let allowed = first_allowed(a, credit, last, octets).unwrap_or(last);
     let bag = a.bag().unwrap_or(1_000);
     if r.once_in(60) {
-        return last.checked_add(long_gap(r, a.smax)).unwrap_or(allowed);
+        return last.checked_add(long_gap(r, a.rate())).unwrap_or(allowed);
     }
     match r.below(20) {
         0..=6 => allowed,

@@ -139,7 +139,9 @@ fn run(options: &Options) -> bool {
         let counts = format!("{}, {:.1} s", tally.counts(), took.as_secs_f64());
         println!("{}", named(&counts));
         codes.extend(tally.codes().iter().map(named));
+        codes.extend(tally.modes().iter().map(named));
         missing.extend(tally.missing(kind.covers).iter().map(named));
+        missing.extend(tally.missing_modes(kind.modes).iter().map(named));
         elapsed += took;
         total.add(&tally);
     }

@@ -11,6 +11,13 @@ pub const IMAGE_P: [u8; 36] = [
     0x09, 0x00, 0x00,
 ];
 
+/// The same in another mode.
+pub fn image_p(mode: u8) -> [u8; 36] {
+    let mut image = IMAGE_P;
+    image[16] = mode;
+    image
+}
+
 pub const CONSTANT: u32 = 0x0300_0000;
 pub const MASK: u32 = 8;
 

@@ -124,8 +124,14 @@ impl<'a> History<'a> {
         call
     }
 
-    /// Sends a frame to both; the answers and everything lent are compared.
-    fn send(&mut self, r: &mut Random, call: Call) -> Result<CallAnswer, Mismatch> {
+    /// Sends a frame to both; the answers and everything lent are compared, and the answer is counted.
+    fn send(
+        &mut self,
+        r: &mut Random,
+        call: Call,
+        what: What,
+        tally: &mut Tally,
+    ) -> Result<CallAnswer, Mismatch> {
         let frame = ReadOnly::new(r, &call.frame);
         let (port, time) = (call.port, call.time);
         self.calls.push(call);
@@ -139,7 +145,18 @@ impl<'a> History<'a> {
         });
         let answer = answer.map_err(|m| self.told(m, self.calls.len()))?;
         self.answers.push(answer);
+        self.count(frame.run(), &answer, what, tally);
         Ok(answer)
+    }
+
+    /// Counts the answer to a frame, by the account it is meant for too.
+    fn count(&self, frame: &[u8], answer: &CallAnswer, what: What, tally: &mut Tally) {
+        tally.count(what, answer.code);
+        let plan = &self.source.plan;
+        if let Some(account) = meant(plan, frame) {
+            let account = &plan.accounts[usize::from(account)];
+            tally.count_frame(what, account, frame.len(), (answer.code, answer.credit));
+        }
     }
 
     /// Adds the first so many calls to a mismatch, which is about the last of them.
@@ -192,8 +209,7 @@ fn record<'a>(
     };
     for _ in 0..length {
         let call = history.next_call(r);
-        let answer = history.send(r, call)?;
-        tally.count(What::FrameCall, answer.code);
+        history.send(r, call, What::FrameCall, tally)?;
     }
     Ok(history)
 }
@@ -246,8 +262,7 @@ fn isolate(r: &mut Random, whole: &History, tally: &mut Tally) -> Result<(), Mis
             continue;
         }
         send_others(r, &mut alone, account, others, tally)?;
-        let again = alone.send(r, call.clone())?;
-        tally.count(What::Isolated, again.code);
+        let again = alone.send(r, call.clone(), What::Isolated, tally)?;
         agree(
             "Rattle's answer to the frame",
             ("whole history", answer),
@@ -274,8 +289,7 @@ fn send_others(
 ) -> Result<(), Mismatch> {
     while r.percent(others) {
         let call = history.other_call(r, account);
-        let answer = history.send(r, call)?;
-        tally.count(What::FrameCall, answer.code);
+        history.send(r, call, What::FrameCall, tally)?;
     }
     Ok(())
 }

@@ -68,6 +68,16 @@ fn counts(image: &[u8], plan: &Plan) -> (usize, usize) {
     }
 }
 
+/// The modes that an answer is about: those of an accepted image, or that of the account refused for a value.
+pub fn modes(image: &[u8], answer: &ImageAnswer) -> Vec<u8> {
+    let at = answer.offset;
+    match answer.code {
+        0 => (0..answer.accounts).map(|i| image[8 + 9 * i + 8]).collect(),
+        23 if image[at] == 2 => vec![image[at + 8]],
+        _ => vec![],
+    }
+}
+
 pub fn run(r: &mut Random, tally: &mut Tally) -> Result<(), Mismatch> {
     let plan = sound::plan(r);
     let octets = damage::image(r, plan.clone());
@@ -81,6 +91,9 @@ pub fn run(r: &mut Random, tally: &mut Tally) -> Result<(), Mismatch> {
     let told = |m: Mismatch| before.told(told(m));
     let (answer, runs) = guarded(|| read(&image, &before)).map_err(told)?;
     tally.count(What::Image, answer.code);
+    for mode in modes(&octets, &answer) {
+        tally.count_mode(What::Image, mode, answer.code);
+    }
     if answer.code == 0 {
         let room = any_room(r, octets.len());
         guarded(|| write_again(&octets, &answer, runs, &room))

@@ -23,7 +23,7 @@ use std::panic::{catch_unwind, AssertUnwindSafe};
 use ffi::Tables;
 use lent::Lent;
 pub use rigs::{Rig, PORT_MAX};
-pub use tally::{Tally, What};
+pub use tally::{ByMode, Tally, What};
 use trials::random::Random;
 use trials::traffic::Call;
 
@@ -33,6 +33,8 @@ pub struct Kind {
     pub cases: u64,
     /// What a run compares, each with the codes that it can't have.
     pub covers: &'static [(What, &'static [usize])],
+    /// What it compares by mode.
+    pub modes: &'static [ByMode],
     pub run: fn(&mut Random, &mut Tally) -> Result<(), Mismatch>,
 }
 
@@ -51,54 +53,72 @@ pub const KINDS: [Kind; 9] = [
         name: "images",
         cases: 300_000,
         covers: &[(What::Image, &[])],
+        modes: &[(What::Image, &[0, 23], &[23])],
         run: images::run,
     },
     Kind {
         name: "writer",
         cases: 150_000,
         covers: &[(What::Write, &[])],
+        modes: &[(What::Write, &[0, 23], &[23])],
         run: writer::run,
     },
     Kind {
         name: "tables",
         cases: 200_000,
         covers: &[(What::FrameCall, &[])],
+        modes: &[
+            (What::FrameCall, &[0, 8, 9, 10], &[10]),
+            (What::Edge, &[0, 9], &[]),
+        ],
         run: tables::run,
     },
     Kind {
         name: "histories",
         cases: 15_000,
         covers: &[(What::FrameCall, &[10]), (What::Isolated, &[])],
+        modes: &[
+            (What::FrameCall, &[0, 8, 9], &[]),
+            (What::Isolated, &[0, 8, 9], &[]),
+        ],
         run: histories::run,
     },
     Kind {
         name: "steps",
         cases: 40_000,
         covers: &[(What::Step, &[])],
+        modes: &[
+            (What::Step, &[0, 8, 9, 10], &[10]),
+            (What::Edge, &[0, 9], &[]),
+        ],
         run: steps::run,
     },
     Kind {
         name: "frames",
         cases: 150_000,
         covers: &[(What::Frame, &[])],
+        modes: &[],
         run: frames::run,
     },
     Kind {
         name: "replays",
         cases: 600,
         covers: &[(What::FrameCall, &[10]), (What::Image, &[26])],
+        modes: &[(What::Image, &[0], &[])],
         run: replays::run,
     },
     Kind {
         name: "arrivals",
         cases: 50_000,
         covers: &[(What::Receive, &[])],
+        modes: &[],
         run: arrivals::run,
     },
     Kind {
         name: "receptions",
         cases: 6_000,
         covers: &[(What::Receive, &[]), (What::ReceiveAlone, &[])],
+        modes: &[],
         run: receptions::run,
     },
 ];

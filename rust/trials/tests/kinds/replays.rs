@@ -10,8 +10,9 @@ use trials::random::Random;
 use trials::sound::{self, ACCOUNTS_MAX, LINKS_MAX};
 use trials::traffic::{Call, Traffic};
 
+use super::images::modes;
 use super::rigs::{put_call, Rig};
-use super::{agree, guarded, Mismatch, Tally, What};
+use super::{agree, guarded, sides, Mismatch, Tally, What};
 
 /// Octets that the proved program reads at once; logs around that length have an edge there.
 const READ_AT_ONCE: usize = 4 * 65_538;
@@ -182,6 +183,14 @@ fn count(output: &[u8], tally: &mut Tally) {
     }
 }
 
+/// Counts an image's answer, which is the same from both, by its modes.
+fn count_modes(image: &[u8], tally: &mut Tally) {
+    let answer = sides::image(policer::check(image));
+    for mode in modes(image, &answer) {
+        tally.count_mode(What::Image, mode, answer.code);
+    }
+}
+
 /// Replays by both in a folder that goes away again; Rust's output.
 fn replay_both(program: &Path, rig: &Rig) -> Result<Vec<u8>, Mismatch> {
     let folder = env::temp_dir().join(format!("ashthulgo-replays-{}", process::id()));
@@ -200,7 +209,8 @@ fn replay_both(program: &Path, rig: &Rig) -> Result<Vec<u8>, Mismatch> {
 pub fn run(r: &mut Random, tally: &mut Tally) -> Result<(), Mismatch> {
     let program = program().map_err(Mismatch::new)?;
     let rig = any_rig(r)?;
-    let output = replay_both(&program, &rig).map_err(|m| m.rig(rig))?;
+    let output = replay_both(&program, &rig).map_err(|m| m.rig(rig.clone()))?;
     count(&output, tally);
+    count_modes(&rig.image.unwrap_or_default(), tally);
     Ok(())
 }

@@ -113,6 +113,11 @@ fn judge(row: &AccountRow, steps: &[(usize, u64)], codes: &Vec<u8>) -> Result<()
     agree("the codes", ("Rattle", codes), ("judge", &judged))
 }
 
+fn count(tally: &mut Tally, row: &AccountRow, octets: usize, answer: &StepAnswer) {
+    tally.count(What::Step, answer.code);
+    tally.count_frame(What::Step, row, octets, (answer.code, answer.credit));
+}
+
 /// Steps on one account from an accepted image, fresh.
 fn list(r: &mut Random, tally: &mut Tally) -> Result<(), Mismatch> {
     let row = sound::account(r);
@@ -131,14 +136,14 @@ fn list(r: &mut Random, tally: &mut Tally) -> Result<(), Mismatch> {
         let (octets, time) = any_step(r, &row, &pair, start);
         steps.push((octets, time));
         let answer = guarded(|| pair.police(octets, time)).map_err(|m| told(m, &steps))?;
-        tally.count(What::Step, answer.code);
+        count(tally, &row, octets, &answer);
         codes.push(answer.code);
     }
     guarded(|| judge(&row, &steps, &codes)).map_err(|m| told(m, &steps))
 }
 
 /// An account of any values: sound, just unsound, or made up.
-fn any_account(r: &mut Random) -> (AccountRow, u32, u64) {
+fn any_account(r: &mut Random) -> AccountRow {
     let mut row = sound::account(r);
     match r.below(8) {
         0 => damage::account(r, &mut row),
@@ -153,32 +158,40 @@ fn any_account(r: &mut Random) -> (AccountRow, u32, u64) {
         }
         _ => {}
     }
-    let full = row.capacity().unwrap_or(1_000_000) as u32;
-    let credit = any_credit(r, full);
-    let last = if r.once_in(2) {
-        1_000_000
-    } else {
-        traffic::wild_time(r)
-    };
-    (row, credit, last)
+    row
 }
 
-/// A credit below, at or above the capacity.
-pub fn any_credit(r: &mut Random, capacity: u32) -> u32 {
-    match r.below(20) {
+/// A credit below, at or above the capacity, or on the way to the cost of a frame.
+pub fn any_credit(r: &mut Random, a: &AccountRow, octets: usize) -> u32 {
+    let capacity = a.capacity().unwrap_or(1_000_000) as u32;
+    match r.below(24) {
         0..=2 => 0,
         3..=8 => capacity,
         9 => capacity.saturating_sub(1),
         10 => capacity.saturating_add(1),
         11 => r.pick(&[u32::MAX, capacity.wrapping_mul(2), 1 << 31]),
+        12..=15 => near_cost(r, a, octets),
         _ => r.below(u64::from(capacity) + 1) as u32,
     }
 }
 
+/// A credit that some microseconds, often none or one, bring to the cost of a frame or to one unit under it.
+fn near_cost(r: &mut Random, a: &AccountRow, octets: usize) -> u32 {
+    let cost = a.cost(octets).unwrap_or(1_000_000);
+    let wait = r.near(&[0, 0, 1], 0, cost / a.rate().max(1));
+    cost.saturating_sub(wait * a.rate() + r.below(2)) as u32
+}
+
 /// The figures, the top-up and the step of one account.
 fn single(r: &mut Random, tally: &mut Tally) -> Result<(), Mismatch> {
-    let (row, credit, last) = any_account(r);
+    let row = any_account(r);
     let octets = any_size(r, row.smax);
+    let credit = any_credit(r, &row, octets);
+    let last = if r.once_in(2) {
+        1_000_000
+    } else {
+        traffic::wild_time(r)
+    };
     let time = if r.once_in(5) {
         traffic::wild_time(r)
     } else {
@@ -197,7 +210,7 @@ fn single(r: &mut Random, tally: &mut Tally) -> Result<(), Mismatch> {
             .input("octets", octets)
             .input("time", time)
     })?;
-    tally.count(What::Step, answer.code);
+    count(tally, &row, octets, &answer);
     Ok(())
 }
 

@@ -1,7 +1,7 @@
 //! Frame calls over tables that no loading stands behind.
 
 use ffi::{CallAnswer, Tables};
-use trials::plan::{LinkRow, Plan};
+use trials::plan::{AccountRow, LinkRow, Plan};
 use trials::random::Random;
 use trials::traffic::{self, Call};
 use trials::{damage, sound};
@@ -68,8 +68,9 @@ fn any_state(r: &mut Random, plan: &Plan) -> State {
     let mut credits = vec![];
     let mut lasts = vec![];
     let around = traffic::wild_time(r);
-    for a in &plan.accounts {
-        credits.push(any_credit(r, a.capacity().unwrap_or(1_000_000) as u32));
+    for (i, a) in plan.accounts.iter().enumerate() {
+        let octets = any_size(r, plan, i);
+        credits.push(any_credit(r, a, octets));
         lasts.push(match r.below(5) {
             0 => 0,
             1 => traffic::wild_time(r),
@@ -83,6 +84,29 @@ fn any_state(r: &mut Random, plan: &Plan) -> State {
         credits: Lent::around(r, &credits, |n| n as u32),
         lasts: Lent::around(r, &lasts, |n| n),
     }
+}
+
+/// A size that frames for an account often have: the smallest or the largest of a link, its Smax where it has none.
+fn any_size(r: &mut Random, plan: &Plan, account: usize) -> usize {
+    let links = plan.links.iter();
+    let links: Vec<&LinkRow> = links
+        .filter(|l| usize::from(l.account) == account)
+        .collect();
+    let size = match damage::any_index(r, links.len()) {
+        Some(i) => r.pick(&[links[i].smallest, links[i].largest]),
+        None => plan.accounts[account].smax,
+    };
+    usize::from(size)
+}
+
+/// The account that a frame is for, where the rows lent have it.
+fn account_of(tables: &Tables, frame: &[u8]) -> Option<AccountRow> {
+    let number = frame.get(4..6)?;
+    let mut links = tables.links.chunks_exact(LINK_ROW).take(tables.link_count);
+    let link = links.find(|row| row[..2] == *number)?;
+    let account = usize::from(u16::from_be_bytes([link[11], link[12]]));
+    let (rows, _) = tables.accounts.as_chunks::<ACCOUNT_ROW>();
+    rows.get(account).map(AccountRow::of)
 }
 
 fn any_run(r: &mut Random, right: usize) -> usize {
@@ -210,6 +234,10 @@ pub fn run(r: &mut Random, tally: &mut Tally) -> Result<(), Mismatch> {
                     .call(&call)
             })?;
         tally.count(What::FrameCall, answer.code);
+        if let Some(account) = account_of(&tables, &call.frame) {
+            let told = (answer.code, answer.credit);
+            tally.count_frame(What::FrameCall, &account, call.frame.len(), told);
+        }
     }
     accounts
         .stayed("the account rows lent for reading")

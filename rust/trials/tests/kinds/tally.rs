@@ -1,4 +1,9 @@
-//! Counts of what was compared, by the code that was answered.
+//! Counts of what was compared, by the code that was answered and by the mode of the account that it was about.
+
+use trials::plan::AccountRow;
+
+/// Accounts have the modes below this number.
+const MODES: u8 = 4;
 
 /// What is counted, with its name and all its codes.
 #[derive(Clone, Copy)]
@@ -13,9 +18,11 @@ pub enum What {
     Receive,
     /// The receive calls of one link run again without the others' frames.
     ReceiveAlone,
+    /// Frames that the credit just pays for, and those for which it lacks one unit.
+    Edge,
 }
 
-const WHAT: [(What, &str, &[usize]); 8] = [
+const WHAT: [(What, &str, &[usize]); 9] = [
     (
         What::FrameCall,
         "frame calls",
@@ -36,12 +43,43 @@ const WHAT: [(What, &str, &[usize]); 8] = [
         "isolated receive calls",
         &[0, 8, 30, 31],
     ),
+    (What::Edge, "credits at a frame's cost", &[0, 9]),
 ];
+
+/// What a run compares by mode: the codes that come up in each mode, and those of numbers that are no mode.
+pub type ByMode = (What, &'static [usize], &'static [usize]);
+
+/// How often each code was answered.
+type Codes = [u64; 32];
 
 #[derive(Default)]
 pub struct Tally {
     pub cases: u64,
-    answers: [[u64; 32]; WHAT.len()],
+    answers: [Codes; WHAT.len()],
+    /// The answers about an account, by its mode; the last of these is for numbers that are no mode.
+    by_mode: [[Codes; MODES as usize + 1]; WHAT.len()],
+}
+
+fn add(mine: &mut Codes, theirs: &Codes) {
+    mine.iter_mut().zip(theirs).for_each(|(m, t)| *m += t);
+}
+
+/// The modes, and what stands for numbers that are none, with their names.
+fn modes() -> impl Iterator<Item = (usize, String)> {
+    let named = |mode| match mode {
+        MODES => "no mode".into(),
+        _ => format!("mode {mode}"),
+    };
+    (0..=MODES).map(move |mode| (mode.into(), named(mode)))
+}
+
+/// The codes that came up, and how often.
+fn came_up(codes: &[usize], answers: &Codes) -> Option<String> {
+    let codes = codes.iter().filter(|&&code| answers[code] > 0);
+    let counts: Vec<String> = codes
+        .map(|&code| format!("{code}: {}", answers[code]))
+        .collect();
+    (!counts.is_empty()).then(|| counts.join(", "))
 }
 
 impl Tally {
@@ -49,10 +87,40 @@ impl Tally {
         self.answers[what as usize][usize::from(code) % 32] += 1;
     }
 
+    /// Counts an answer by the mode of an account that it is about.
+    pub fn count_mode(&mut self, what: What, mode: u8, code: u8) {
+        let mode = usize::from(mode.min(MODES));
+        self.by_mode[what as usize][mode][usize::from(code) % 32] += 1;
+    }
+
+    /// Counts the answer to a frame of so many octets by its account's mode, and whether the credit was at its cost.
+    pub fn count_frame(
+        &mut self,
+        what: What,
+        a: &AccountRow,
+        octets: usize,
+        (code, credit): (u8, u32),
+    ) {
+        self.count_mode(what, a.mode, code);
+        let edge = match code {
+            0 => credit == 0,
+            9 => a.cost(octets) == Some(u64::from(credit) + 1),
+            _ => false,
+        };
+        if edge {
+            self.count(What::Edge, code);
+            self.count_mode(What::Edge, a.mode, code);
+        }
+    }
+
     pub fn add(&mut self, other: &Tally) {
         self.cases += other.cases;
         for (mine, theirs) in self.answers.iter_mut().zip(&other.answers) {
-            mine.iter_mut().zip(theirs).for_each(|(m, t)| *m += t);
+            add(mine, theirs);
+        }
+        let (mine, theirs) = (self.by_mode.iter_mut(), other.by_mode.iter());
+        for (mine, theirs) in mine.flatten().zip(theirs.flatten()) {
+            add(mine, theirs);
         }
     }
 
@@ -83,6 +151,51 @@ impl Tally {
             }
         }
         missing
+    }
+
+    /// The codes of these things that hardly came up in a mode, or about a number that is none.
+    pub fn missing_modes(&self, covers: &[ByMode]) -> Vec<String> {
+        let mut missing = vec![];
+        for &(what, in_modes, in_none) in covers {
+            let (_, name, _) = WHAT[what as usize];
+            for (mode, named) in modes() {
+                let expected = if mode < MODES.into() {
+                    in_modes
+                } else {
+                    in_none
+                };
+                let rare = expected.iter().filter(|&&code| self.rare(what, mode, code));
+                missing.extend(
+                    rare.map(|code| format!("hardly a code {code} of {named} among the {name}")),
+                );
+            }
+        }
+        missing
+    }
+
+    /// Are fewer than one in a hundred of a code's answers of this mode? Chance alone gives a few, such as a bit that flips.
+    fn rare(&self, what: What, mode: usize, code: usize) -> bool {
+        let by_mode = &self.by_mode[what as usize];
+        let all: u64 = by_mode.iter().map(|codes| codes[code]).sum();
+        let n = by_mode[mode][code];
+        n == 0 || 100 * n < all
+    }
+
+    /// One line for each thing compared by mode: the codes that came up in each mode, and how often.
+    pub fn modes(&self) -> Vec<String> {
+        let mut lines = vec![];
+        for (what, name, codes) in WHAT {
+            let by_mode = &self.by_mode[what as usize];
+            let told = modes().filter_map(|(mode, named)| {
+                let came_up = came_up(codes, &by_mode[mode])?;
+                Some(format!("{named} ({came_up})"))
+            });
+            let told: Vec<String> = told.collect();
+            if !told.is_empty() {
+                lines.push(format!("{name} {}", told.join(", ")));
+            }
+        }
+        lines
     }
 
     /// One line for each thing compared: every code, how often, and in how many of a hundred.

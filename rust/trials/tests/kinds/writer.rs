@@ -86,6 +86,17 @@ fn load_back(image: &ReadOnly, tables: &Tables, room: &Runs) -> Result<(), Misma
     image.stayed("the image lent for reading")
 }
 
+/// The modes that an answer is about: those of an image written, or that of the account refused for a value.
+fn modes(tables: &Tables, answer: &WriteAnswer) -> Vec<u8> {
+    let rows = tables.accounts.chunks_exact(ACCOUNT_ROW);
+    let mut modes = rows.take(tables.account_count).map(|row| row[5]);
+    match (answer.code, answer.offset.checked_sub(8)) {
+        (0, _) => modes.collect(),
+        (23, Some(behind)) => modes.nth(behind / 9).into_iter().collect(),
+        _ => vec![],
+    }
+}
+
 pub fn run(r: &mut Random, tally: &mut Tally) -> Result<(), Mismatch> {
     let plan = any_plan(r);
     let accounts = lend_rows(r, plan.account_rows(), ACCOUNT_ROW);
@@ -101,6 +112,9 @@ pub fn run(r: &mut Random, tally: &mut Tally) -> Result<(), Mismatch> {
     let told = |m: Mismatch| m.tables(&tables).octets("room lent", room.run());
     let (answer, image) = guarded(|| write_both(&tables, &room)).map_err(told)?;
     tally.count(What::Write, answer.code);
+    for mode in modes(&tables, &answer) {
+        tally.count_mode(What::Write, mode, answer.code);
+    }
     accounts
         .stayed("the account rows lent for reading")
         .and_then(|()| links.stayed("the link rows lent for reading"))

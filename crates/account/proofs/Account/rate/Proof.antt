@@ -1,16 +1,15 @@
--- `rate`: Smax. Assumes nothing.
-use mathlib.Core.Path.{refl}
-use Rattle.account.specs.Terms.{charge, rate}
+-- `rate`: the charge of Smax. Assumes nothing.
+use Rattle.account.specs.Terms.{rate}
 use borrow.Author.Needs.{needs}
 use Rattle.account.proofs.Account.rate.Statement.{statement}
 use Rattle.account.proofs.Account.rate.Tie as tie
 
-cast-result : tie.Need-cast-result
-cast-result c = search needs
+charge-requires : tie.Need-charge-requires
+charge-requires c κs = search needs
 
 returns : tie.Need-returns
-unfolding charge rate
-returns c = refl
+unfolding rate
+returns c = c .charge .ensures
 
 pub rate-spec : {M : Type 1} → statement M
-rate-spec = tie.close (tie.spec cast-result returns)
+rate-spec = tie.close (tie.spec charge-requires returns)
