@@ -128,7 +128,7 @@ module _ (p : Terms) (l : Limits p) where
   unfolding rate
   rate-high = charge-high (p .mode) (p .smax) (l .smax-high)
 
-  rate-low : 1 ≤ rate p
+  pub rate-low : 1 ≤ rate p
   unfolding rate
   rate-low = le-trans (omega arith) (le-trans (l .smax-low) (charge-low (p .mode) (p .smax)))
 

@@ -97,3 +97,9 @@ StepsInWords =
     → lengthCode n ≡ 0 → lastTime (rulePast p [] before) ≤ t
     → ((policed (accountAfter (loaded p) before) n t .says .code ≡ 0) ↔ FromEach (allowance p) t (cost p n) (rulePast p [] before))
     × ((FromEach (allowance p) t (cost p n) (rulePast p [] before) → ⊥) → policed (accountAfter (loaded p) before) n t .says .code ≡ 9)
+
+-- line octets change no code in frame mode: both sides of the rule grow alike, and mode 3 answers as mode 1 (Q-3)
+abbrev pub FrameModesAlike : Type 0
+FrameModesAlike =
+    (s k j : ℕ) → inLimits (termsWith s k j 1) ≡ true → (steps : List Arrival)
+    → codes (stepsTold (loaded (termsWith s k j 3)) steps) ≡ codes (stepsTold (loaded (termsWith s k j 1)) steps)
