@@ -13,8 +13,9 @@ use Rattle.account.specs.Terms.{byteMode, frameMode, inLimits, bag, added, char
 use Rattle.account.specs.Account.{valid, creditAt}
 use Rattle.account.specs.Step.{judged, policed}
 use Rattle.rule.specs.Bench.{Case, termsP, byteCases, frameCases}
-use Rattle.tables.specs.Leading.{leading}
-use Rattle.tables.specs.Rows.{Config, termsAt, linkAt, foundIn, accountIn}
+use Rattle.octets.specs.Leading.{leading}
+use Rattle.rows.specs.Rows.{foundIn}
+use Rattle.tables.specs.Rows.{Config, termsAt, linkAt, accountIn}
 use Rattle.tables.specs.Rules.{portsSound, sizesSound, linkSound, accountGood, numberRises, linkGood}
 use Rattle.layout.specs.Layout.{fieldPlace, constantGood}
 use Rattle.image.specs.Read.{accountFields, fieldCode, headGood, headCode, inOrder, dataOctets, isFull, valuesGood, nextCode, goodField, accountCount, linkCount, readEnd, readImage, configFor}

@@ -11,10 +11,12 @@ use borrow.Author.Tests.{le-leb, eq-eqb, ne-eqb, eqb-true, eqb-false}
 use Rattle.octets.proofs.Tests.{split}
 use Rattle.frame.specs.Frame.{linkNumber}
 use Rattle.frame.proofs.Frame.{within}
-use Rattle.tables.specs.Rows.{Config, linkTable, linksInUse, foundIn, found}
-use Rattle.tables.specs.declared.Found.{Found}
-use Rattle.tables.specs.declared.Found.the-variants.{At, Nowhere}
-use Rattle.tables.proofs.Claims.{first-found, found-same}
+use Rattle.rows.specs.Rows.{foundIn}
+use Rattle.tables.specs.Rows.{Config, linkTable, linksInUse, found}
+use Rattle.rows.specs.declared.Found.{Found}
+use Rattle.rows.specs.declared.Found.the-variants.{At, Nowhere}
+use Rattle.rows.proofs.Finding.{first-found}
+use Rattle.tables.proofs.Claims.{links-same}
 use Rattle.image.specs.Read.{linkFields, readImage}
 use Rattle.filter.specs.Filter.{frameCode, portCode}
 use Rattle.switch.specs.Call.{State, Call, refusedWith, onLink, called}
@@ -82,7 +84,7 @@ module _ (s : List ℕ) (g : Config) (t : Tables s g) (q : State) (f : Call) whe
       let b = t .link-room in
       let m : linksInUse (g .links) (g .linkCount) ≡ readImage s .links = omega arith in
       ap (λ (n : ℕ). foundIn (linkTable (g .links)) n (linkNumber (f .octets))) m
-      ∙ found-same (linkTable (g .links)) (linkFields s (readImage s .accounts)) (readImage s .links) (linkNumber (f .octets)) (t .link)
+      ∙ links-same (linkTable (g .links)) (linkFields s (readImage s .accounts)) (readImage s .links) (linkNumber (f .octets)) (t .link)
 
   code-is : frameCode (g .constant) (f .octets) ≡ frame-code s f
   code-is = ap (λ (c : ℕ). frameCode c (f .octets)) (t .constant)

@@ -16,8 +16,8 @@ use Rattle.rule.specs.Rule.{rulePast}
 use Rattle.account.specs.declared.Account.{Account}
 use Rattle.rule.proofs.Rule.{state}
 use Rattle.tables.specs.Rows.{Config}
-use Rattle.tables.specs.declared.Found.{Found}
-use Rattle.tables.specs.declared.Found.the-variants.{At, Nowhere}
+use Rattle.rows.specs.declared.Found.{Found}
+use Rattle.rows.specs.declared.Found.the-variants.{At, Nowhere}
 use Rattle.image.specs.Read.{readImage}
 use Rattle.loader.specs.Loading.{Runs, loading}
 use Rattle.loader.specs.Fresh.{Fresh}

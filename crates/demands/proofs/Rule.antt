@@ -22,8 +22,8 @@ use Rattle.account.specs.declared.Account.{Account}
 use Rattle.rule.proofs.Rule.{Sound, state, Agree, step-arrived, state-valid, arrival, state-loaded}
 use Rattle.account.proofs.Step.{policed-keeps}
 use Rattle.tables.specs.Rows.{Config}
-use Rattle.tables.specs.declared.Found.{Found}
-use Rattle.tables.specs.declared.Found.the-variants.{At, Nowhere}
+use Rattle.rows.specs.declared.Found.{Found}
+use Rattle.rows.specs.declared.Found.the-variants.{At, Nowhere}
 use Rattle.tables.specs.declared.Link.{Link}
 use Rattle.tables.proofs.Rules.{sound-account}
 use Rattle.image.specs.Read.{readImage}

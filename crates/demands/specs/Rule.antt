@@ -11,9 +11,10 @@ use Rattle.frame.specs.Frame.{linkNumber}
 use Rattle.account.specs.Terms.{Terms}
 use Rattle.rule.specs.Bucket.{Reached}
 use Rattle.rule.specs.Rule.{Arrival, ruleArrived, rulePast}
-use Rattle.tables.specs.Rows.{accountIn, linkIn, foundIn}
-use Rattle.tables.specs.declared.Found.{Found}
-use Rattle.tables.specs.declared.Found.the-variants.{At, Nowhere}
+use Rattle.rows.specs.Rows.{foundIn}
+use Rattle.tables.specs.Rows.{accountIn, linkIn}
+use Rattle.rows.specs.declared.Found.{Found}
+use Rattle.rows.specs.declared.Found.the-variants.{At, Nowhere}
 use Rattle.tables.specs.declared.Link.{Link}
 use Rattle.image.specs.Read.{accountFields, linkFields, readImage}
 use Rattle.filter.specs.Filter.{frameCode, portCode}

@@ -11,8 +11,8 @@ use Rattle.octets.proofs.Tests.{split}
 use Rattle.frame.specs.Frame.{lengthCode, constantField, linkNumber}
 use Rattle.frame.proofs.Frame.{by-length}
 use Rattle.tables.specs.Rows.{found, soughtIn}
-use Rattle.tables.specs.declared.Found.{Found}
-use Rattle.tables.specs.declared.Found.the-variants.{At, Nowhere}
+use Rattle.rows.specs.declared.Found.{Found}
+use Rattle.rows.specs.declared.Found.the-variants.{At, Nowhere}
 use Rattle.tables.specs.declared.Link.{Link}
 use Rattle.tables.specs.declared.Sought.{Sought}
 use Rattle.tables.specs.declared.Sought.the-variants.{Present, Absent}

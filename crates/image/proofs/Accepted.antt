@@ -10,8 +10,10 @@ use borrow.Author.Tests.{leb-true, leb-false, eq-eqb, ne-eqb, eqb-true, eqb-fals
 use Rattle.octets.specs.Numbers.{numberAt}
 use Rattle.octets.proofs.Tests.{split, both}
 use Rattle.tables.specs.Rules.{accountGood, linkGood}
-use Rattle.tables.proofs.Leading.{leading-before, leading-fails}
-use Rattle.layout.specs.Layout.{headTag, accountTag, linkTag, endTag, tagAndLength, headOctets, fieldPlace, imageLength, maxAccounts, maxLinks}
+use Rattle.octets.proofs.Leading.{leading-before, leading-fails}
+use Rattle.fields.specs.Fields.{tagAndLength, fieldAt}
+use Rattle.fields.specs.declared.Field.{Field}
+use Rattle.layout.specs.Layout.{headTag, accountTag, linkTag, endTag, headOctets, fieldPlace, imageLength, maxAccounts, maxLinks}
 use Rattle.image.specs.Read.{fieldCode, headGood, headCode, accountFields, linkFields, inOrder, dataOctets, isFull, valuesGood, tagAt, nextCode, goodField, accountCount, linkCount, readImage}
 use Rattle.image.specs.declared.Loaded.{Loaded}
 use Rattle.image.proofs.Checks.{code-short, code-order, code-length, code-cut, code-full, code-bad, values-account, values-link, full-account, full-link}
@@ -26,40 +28,49 @@ pub record Passed (s : List ℕ) (at : ℕ) (order : Bool) (size : ℕ) (full go
   pub few : full ≡ false
   pub sound : good ≡ true
 
-module _ (s : List ℕ) (at : ℕ) (order : Bool) (size : ℕ) (full good : Bool) (z : fieldCode s at order size full good ≡ 0) where
-  passed-headed : at + tagAndLength ≤ length s
-  passed-headed =
-      split (leb (at + tagAndLength) (length s))
-      (λ e. leb-true _ _ e)
-      (λ e. let h = code-short s at order size full good (leb-false _ _ e) in absurd (omega arith))
+module _ (s : List ℕ) (at : ℕ) (order : Bool) (size : ℕ) (full good : Bool) (z : fieldCode (fieldAt s at) order size full good ≡ 0) where
+  abbrev f : Field
+  f = fieldAt s at
+
+  is-headed : f .headed ≡ true
+  is-headed =
+      split (f .headed) (λ e. e)
+      (λ e. let h = code-short f order size full good (ap not e) in absurd (omega arith))
 
   passed-ordered : order ≡ true
   passed-ordered =
       split order (λ e. e)
-      (λ e. let h = code-order s at order size full good passed-headed (ap not e) in absurd (omega arith))
+      (λ e. let h = code-order f order size full good (ap not is-headed) (ap not e) in absurd (omega arith))
 
   passed-sized : numberAt 2 s (at + 1) ≡ size
   passed-sized =
       split (eqb (numberAt 2 s (at + 1)) size)
       (λ e. eqb-true _ _ e)
-      (λ e. let h = code-length s at order size full good passed-headed (ap not passed-ordered) _ refl (eqb-false _ _ e) in absurd (omega arith))
+      (λ e. let h = code-length f order size full good (ap not is-headed) (ap not passed-ordered) (eqb-false _ _ e) in absurd (omega arith))
 
-  passed-whole : at + tagAndLength + size ≤ length s
-  passed-whole =
-      split (leb (at + tagAndLength + size) (length s))
-      (λ e. leb-true _ _ e)
-      (λ e. let h = code-cut s at order size full good passed-headed (ap not passed-ordered) _ refl passed-sized (leb-false _ _ e) in absurd (omega arith))
+  is-whole : f .whole ≡ true
+  is-whole =
+      split (f .whole) (λ e. e)
+      (λ e. let h = code-cut f order size full good (ap not is-headed) (ap not passed-ordered) passed-sized (ap not e) in absurd (omega arith))
 
   passed-few : full ≡ false
   passed-few =
       split full
-      (λ e. let h = code-full s at order size full good passed-headed (ap not passed-ordered) _ refl passed-sized passed-whole e in absurd (omega arith))
+      (λ e. let h = code-full f order size full good (ap not is-headed) (ap not passed-ordered) passed-sized (ap not is-whole) e in absurd (omega arith))
       (λ e. e)
 
   passed-sound : good ≡ true
   passed-sound =
       split good (λ e. e)
-      (λ e. let h = code-bad s at order size full good passed-headed (ap not passed-ordered) _ refl passed-sized passed-whole passed-few e in absurd (omega arith))
+      (λ e. let h = code-bad f order size full good (ap not is-headed) (ap not passed-ordered) passed-sized (ap not is-whole) passed-few e in absurd (omega arith))
+
+  passed-headed : at + tagAndLength ≤ length s
+  passed-headed = leb-true _ _ is-headed
+
+  passed-whole : at + tagAndLength + size ≤ length s
+  passed-whole =
+      let w : at + (tagAndLength + numberAt 2 s (at + 1)) ≤ length s = leb-true _ _ is-whole in
+      let n = passed-sized in omega arith
 
   pub passed : Passed s at order size full good
   passed =

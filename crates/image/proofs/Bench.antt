@@ -3,10 +3,11 @@ use mathlib.Core.Path.{refl}
 use Rattle.octets.specs.Numbers.{numberAt, octetsOf}
 use Rattle.octets.specs.Runs.{octetsAt, joined}
 use Rattle.account.specs.Terms.{inLimits}
-use Rattle.tables.specs.Leading.{leading}
+use Rattle.octets.specs.Leading.{leading}
 use Rattle.tables.specs.Rows.{termsAt, linkAt}
 use Rattle.tables.specs.Rules.{portsSound, sizesSound, linkSound, accountGood, numberRises, linkGood}
-use Rattle.layout.specs.Layout.{fieldOf, imageOf, fieldPlace, constantGood}
+use Rattle.fields.specs.Fields.{fieldOf}
+use Rattle.layout.specs.Layout.{imageOf, fieldPlace, constantGood}
 use Rattle.image.specs.Read.{fieldCode, headGood, headCode, inOrder, dataOctets, isFull, valuesGood, nextCode, goodField, accountCount, linkCount, readEnd, readImage}
 use Rattle.image.specs.Bench.{ImagePReads}
 

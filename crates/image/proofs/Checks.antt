@@ -1,52 +1,54 @@
 -- Laws of the checks of one field, case by case as the code makes them. Assumes nothing.
-use Prim.Native.Nat.{ℕ, _+_, _≤_, _<_}
+use Prim.Native.Nat.{ℕ}
 use mathlib.Core.Bool.{Bool, true, false, not}
 use mathlib.Core.List.{List}
-use mathlib.Core.Path.{_≡_, ap, _∙_}
+use mathlib.Core.Path.{_≡_, ap, ap₂, _∙_}
 use lib.Dec.{leb, eqb}
-use lib.ListN.{length, getD}
-use borrow.Author.Tests.{le-leb, lt-leb, eq-eqb, ne-eqb, not-true, not-false}
+use lib.ListN.{getD}
+use borrow.Author.Tests.{eq-eqb, ne-eqb, not-true, not-false}
 use Rattle.octets.specs.Numbers.{numberAt}
 use Rattle.octets.proofs.Tests.{split}
 use Rattle.tables.specs.Rows.{accountOctets, linkOctets}
 use Rattle.tables.specs.Rules.{accountGood, linkGood}
-use Rattle.layout.specs.Layout.{headTag, headOctets, accountTag, linkTag, endTag, edition, tagAndLength, fieldPlace, maxAccounts, maxLinks, constantGood}
+use Rattle.fields.specs.Fields.{fieldAt}
+use Rattle.fields.specs.declared.Field.{Field}
+use Rattle.layout.specs.Layout.{headTag, headOctets, accountTag, linkTag, endTag, edition, fieldPlace, maxAccounts, maxLinks, constantGood}
 use Rattle.image.specs.Read.{fieldCode, headGood, headCode, accountFields, linkFields, inOrder, dataOctets, isFull, valuesGood, tagAt, nextCode, goodField}
 
 -- ---- the code of a field
-module _ (s : List ℕ) (at : ℕ) (order : Bool) (size : ℕ) (full good : Bool) where
-  pub code-short : length s < at + tagAndLength → 20 ≡ fieldCode s at order size full good
+module _ (f : Field) (order : Bool) (size : ℕ) (full good : Bool) where
+  pub code-short : not (f .headed) ≡ true → 20 ≡ fieldCode f order size full good
   unfolding fieldCode
-  code-short h = simp (lt-leb _ _ h)
+  code-short h = simp (not-true (f .headed) h)
 
-  module _ (h : at + tagAndLength ≤ length s) where
-    pub code-order : not order ≡ true → 21 ≡ fieldCode s at order size full good
+  module _ (h : not (f .headed) ≡ false) where
+    pub code-order : not order ≡ true → 21 ≡ fieldCode f order size full good
     unfolding fieldCode
-    code-order e = simp (le-leb _ _ h, not-true order e)
+    code-order e = simp (not-false (f .headed) h, not-true order e)
 
     module _ (o : not order ≡ false) where
-      pub code-length : (r : ℕ) → r ≡ numberAt 2 s (at + 1) → (r ≡ size → ⊥) → 22 ≡ fieldCode s at order size full good
+      pub code-length : (f .size ≡ size → ⊥) → 22 ≡ fieldCode f order size full good
       unfolding fieldCode
-      code-length r v d = simp (le-leb _ _ h, not-false order o, ← v, ne-eqb _ _ d)
+      code-length d = simp (not-false (f .headed) h, not-false order o, ne-eqb _ _ d)
 
-      module _ (r : ℕ) (v : r ≡ numberAt 2 s (at + 1)) (l : r ≡ size) where
-        pub code-cut : length s < at + tagAndLength + size → 20 ≡ fieldCode s at order size full good
+      module _ (l : f .size ≡ size) where
+        pub code-cut : not (f .whole) ≡ true → 20 ≡ fieldCode f order size full good
         unfolding fieldCode
-        code-cut k = simp (le-leb _ _ h, not-false order o, ← v, eq-eqb _ _ l, lt-leb _ _ k)
+        code-cut k = simp (not-false (f .headed) h, not-false order o, eq-eqb _ _ l, not-true (f .whole) k)
 
-        module _ (k : at + tagAndLength + size ≤ length s) where
-          pub code-full : full ≡ true → 24 ≡ fieldCode s at order size full good
+        module _ (k : not (f .whole) ≡ false) where
+          pub code-full : full ≡ true → 24 ≡ fieldCode f order size full good
           unfolding fieldCode
-          code-full f = simp (le-leb _ _ h, not-false order o, ← v, eq-eqb _ _ l, le-leb _ _ k, f)
+          code-full z = simp (not-false (f .headed) h, not-false order o, eq-eqb _ _ l, not-false (f .whole) k, z)
 
-          module _ (f : full ≡ false) where
-            pub code-good : good ≡ true → 0 ≡ fieldCode s at order size full good
+          module _ (z : full ≡ false) where
+            pub code-good : good ≡ true → 0 ≡ fieldCode f order size full good
             unfolding fieldCode
-            code-good g = simp (le-leb _ _ h, not-false order o, ← v, eq-eqb _ _ l, le-leb _ _ k, f, g)
+            code-good g = simp (not-false (f .headed) h, not-false order o, eq-eqb _ _ l, not-false (f .whole) k, z, g)
 
-            pub code-bad : good ≡ false → 23 ≡ fieldCode s at order size full good
+            pub code-bad : good ≡ false → 23 ≡ fieldCode f order size full good
             unfolding fieldCode
-            code-bad g = simp (le-leb _ _ h, not-false order o, ← v, eq-eqb _ _ l, le-leb _ _ k, f, g)
+            code-bad g = simp (not-false (f .headed) h, not-false order o, eq-eqb _ _ l, not-false (f .whole) k, z, g)
 
 -- ---- the head's values
 module _ (s : List ℕ) (e : ℕ) (p : e ≡ getD s 3 0) where
@@ -58,10 +60,11 @@ module _ (s : List ℕ) (e : ℕ) (p : e ≡ getD s 3 0) where
   unfolding headGood
   constant-left q c v r z = z ∙ ap constantGood v ∙ simp (← p, eq-eqb _ _ q)
 
-pub head-is : (s : List ℕ) (tag : ℕ) (good : Bool) (r : ℕ) → tag ≡ getD s 0 0 → good ≡ headGood s
-    → r ≡ fieldCode s 0 (eqb tag headTag) headOctets false good → r ≡ headCode s
+pub head-is : (s : List ℕ) (f : Field) (good : Bool) (r : ℕ) → f ≡ fieldAt s 0 → good ≡ headGood s
+    → r ≡ fieldCode f (eqb (f .tag) headTag) headOctets false good → r ≡ headCode s
 unfolding headCode
-head-is s tag good r e f v = v ∙ rw (e, f)
+head-is s f good r e g v =
+    v ∙ ap₂ (λ (x : Field) (y : Bool). fieldCode x (eqb (x .tag) headTag) headOctets false y) e g
 
 -- ---- the order of tags
 module _ (tag n m : ℕ) where
@@ -131,16 +134,19 @@ module _ (s : List ℕ) (tag n m : ℕ) where
     unfolding valuesGood
     values-end k = simp (ne-eqb _ _ h, ne-eqb _ _ k)
 
--- ---- the field behind n accounts and m links
+-- ---- the field after n accounts and m links
+pub next-is : (s : List ℕ) (n m at : ℕ) (f : Field) → at ≡ fieldPlace n m → f ≡ fieldAt s at
+    → (order : Bool) (size : ℕ) (full good : Bool) (r : ℕ) → order ≡ inOrder (f .tag) n m → full ≡ isFull (f .tag) n m → good ≡ valuesGood s (f .tag) n m
+    → size ≡ dataOctets (f .tag) → r ≡ fieldCode f order size full good → r ≡ nextCode s n m
+unfolding nextCode
+next-is s n m at f e q order size full good r o u g d v =
+    let p : f ≡ fieldAt s (fieldPlace n m) = q ∙ ap (fieldAt s) e in
+    v ∙ rw (o, u, g, d)
+    (ap (λ (x : Field). fieldCode x (inOrder (x .tag) n m) (dataOctets (x .tag)) (isFull (x .tag) n m) (valuesGood s (x .tag) n m)) p)
+
 module _ (s : List ℕ) (n m at tag : ℕ) (e : at ≡ fieldPlace n m) (t : tag ≡ getD s at 0) where
   pub tag-is : tag ≡ tagAt s n m
   tag-is = t ∙ ap (λ (i : ℕ). getD s i 0) e
-
-  pub next-is : (order : Bool) (size : ℕ) (full good : Bool) (r : ℕ) → order ≡ inOrder tag n m → full ≡ isFull tag n m → good ≡ valuesGood s tag n m
-      → size ≡ dataOctets tag → r ≡ fieldCode s at order size full good → r ≡ nextCode s n m
-  unfolding nextCode
-  next-is order size full good r o f g d v =
-      v ∙ rw (o, f, g, d, e, tag-is)
 
   pub field-other : (x : ℕ) → (tag ≡ x → ⊥) → false ≡ goodField s x n m
   unfolding goodField

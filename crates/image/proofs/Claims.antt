@@ -11,8 +11,10 @@ use Rattle.octets.specs.Choice.{if_then_else_}
 use Rattle.octets.specs.Numbers.{numberAt}
 use Rattle.octets.proofs.Tests.{split}
 use Rattle.tables.specs.Rows.{accountOctets, linkOctets}
-use Rattle.tables.proofs.Leading.{leading-fails}
-use Rattle.layout.specs.Layout.{headTag, accountTag, linkTag, endTag, headSize, accountSize, linkSize, tagAndLength, headOctets, fieldPlace, imageLength, maxAccounts, maxLinks, longestImage}
+use Rattle.octets.proofs.Leading.{leading-fails}
+use Rattle.fields.specs.Fields.{tagAndLength, fieldAt}
+use Rattle.fields.specs.declared.Field.{Field}
+use Rattle.layout.specs.Layout.{headTag, accountTag, linkTag, endTag, headSize, accountSize, linkSize, headOctets, fieldPlace, imageLength, maxAccounts, maxLinks, longestImage}
 use Rattle.image.specs.Read.{fieldCode, headGood, headCode, inOrder, dataOctets, isFull, valuesGood, tagAt, nextCode, goodField, accountCount, linkCount, readEnd, readImage}
 use Rattle.image.specs.Claims.{ReadCodes, AcceptedEnds, walked, ReadFieldByField}
 use Rattle.image.proofs.Accepted.{Accepted, accepted, head-passes, next-passes, good-tag, good-code, counted-account, counted-link, some-accounts, some-links, end-tag}
@@ -27,24 +29,24 @@ by-choice P false x y f g = g
 
 -- of a field
 module _ (P : ℕ → Type 0) (p0 : P 0) (p20 : P 20) (p21 : P 21) (p22 : P 22) (p23 : P 23) (p24 : P 24) where
-  by-field : (s : List ℕ) (at : ℕ) (order : Bool) (size : ℕ) (full good : Bool) → P (fieldCode s at order size full good)
+  by-field : (f : Field) (order : Bool) (size : ℕ) (full good : Bool) → P (fieldCode f order size full good)
   unfolding fieldCode
-  by-field s at order size full good =
-      by-choice P (not (leb (at + tagAndLength) (length s))) _ _ p20
+  by-field f order size full good =
+      by-choice P (not (f .headed)) _ _ p20
       (by-choice P (not order) _ _ p21
-      (by-choice P (not (eqb (numberAt 2 s (at + 1)) size)) _ _ p22
-      (by-choice P (not (leb (at + tagAndLength + size) (length s))) _ _ p20
+      (by-choice P (not (eqb (f .size) size)) _ _ p22
+      (by-choice P (not (f .whole)) _ _ p20
       (by-choice P full _ _ p24
       (by-choice P (not good) _ _ p23 p0)))))
 
   by-head : (s : List ℕ) → P (headCode s)
   unfolding headCode
-  by-head s = by-field s 0 (eqb (getD s 0 0) headTag) headOctets false (headGood s)
+  by-head s = by-field (fieldAt s 0) (eqb (getD s 0 0) headTag) headOctets false (headGood s)
 
   by-next : (s : List ℕ) (n m : ℕ) → P (nextCode s n m)
   unfolding nextCode
   by-next s n m =
-      by-field s (fieldPlace n m) (inOrder (tagAt s n m) n m) (dataOctets (tagAt s n m)) (isFull (tagAt s n m) n m) (valuesGood s (tagAt s n m) n m)
+      by-field (fieldAt s (fieldPlace n m)) (inOrder (tagAt s n m) n m) (dataOctets (tagAt s n m)) (isFull (tagAt s n m) n m) (valuesGood s (tagAt s n m) n m)
 
   -- of an image
   pub by-code : P 25 → (s : List ℕ) → P (readImage s .code)

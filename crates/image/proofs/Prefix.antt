@@ -13,10 +13,11 @@ use Rattle.octets.specs.Numbers.{numberAt}
 use Rattle.octets.proofs.Tests.{split}
 use Rattle.octets.proofs.Numbers.{number-shift}
 use Rattle.tables.specs.Rows.{accountOctets, linkOctets, accountIn, linkIn}
-use Rattle.tables.proofs.Leading.{leading-same}
+use Rattle.octets.proofs.Leading.{leading-same}
 use Rattle.tables.proofs.Rows.{terms-same, link-same}
 use Rattle.tables.proofs.Rules.{account-good-same, link-good-same}
-use Rattle.layout.specs.Layout.{headTag, accountTag, linkTag, tagAndLength, headOctets, headSize, accountSize, linkSize, fieldPlace, imageLength, maxAccounts, maxLinks, imagePrefix}
+use Rattle.fields.specs.Fields.{tagAndLength, fieldAt}
+use Rattle.layout.specs.Layout.{headTag, accountTag, linkTag, headOctets, headSize, accountSize, linkSize, fieldPlace, imageLength, maxAccounts, maxLinks, imagePrefix}
 use Rattle.image.specs.Read.{fieldCode, headGood, headCode, accountFields, linkFields, inOrder, dataOctets, isFull, valuesGood, tagAt, nextCode, goodField, accountCount, linkCount, readEnd, readImage}
 use Rattle.image.specs.Claims.{PrefixRead}
 use Rattle.image.proofs.Checks.{octets-account, octets-link, octets-end}
@@ -43,10 +44,14 @@ module _ (s t : List ℕ) (same : (i : ℕ) → i < prefix → getD s i 0 ≡ ge
 
   -- a field that ends before the prefix does has the same code
   code-same : (at : ℕ) (order : Bool) (size : ℕ) (full a b : Bool) → at + tagAndLength + size ≤ prefix → a ≡ b
-      → fieldCode s at order size full a ≡ fieldCode t at order size full b
+      → fieldCode (fieldAt s at) order size full a ≡ fieldCode (fieldAt t at) order size full b
   unfolding fieldCode
   code-same at order size full a b h g =
-      rw (long (at + tagAndLength) (omega arith), number-same 2 (at + 1) (omega arith), long (at + tagAndLength + size) h, g)
+      split (eqb (numberAt 2 t (at + 1)) size)
+      (λ e.
+      let l : numberAt 2 t (at + 1) ≡ size = eqb-true _ _ e in
+      rw (long (at + tagAndLength) (omega arith), number-same 2 (at + 1) (omega arith), l, long (at + (tagAndLength + size)) (omega arith), g))
+      (λ e. rw (long (at + tagAndLength) (omega arith), number-same 2 (at + 1) (omega arith), g) (simp e))
 
   head-good-same : headGood s ≡ headGood t
   unfolding headGood
@@ -54,7 +59,9 @@ module _ (s t : List ℕ) (same : (i : ℕ) → i < prefix → getD s i 0 ≡ ge
 
   head-same : headCode s ≡ headCode t
   unfolding headCode
-  head-same = rw (same 0 (omega arith)) (code-same 0 (eqb (getD t 0 0) headTag) headOctets false (headGood s) (headGood t) (omega arith) head-good-same)
+  head-same =
+      code-same 0 (eqb (getD s 0 0) headTag) headOctets false (headGood s) (headGood t) (omega arith) head-good-same
+      ∙ ap (λ (x : ℕ). fieldCode (fieldAt t 0) (eqb x headTag) headOctets false (headGood t)) (same 0 (omega arith))
 
   -- rows of accounts and links, up to one too many
   account-same : (i : ℕ) → i ≤ maxAccounts → accountIn (accountFields s) i ≡ accountIn (accountFields t) i
@@ -88,10 +95,10 @@ module _ (s t : List ℕ) (same : (i : ℕ) → i < prefix → getD s i 0 ≡ ge
       unfolding nextCode
       next-same =
           let p = place-low in
-          let d = small-data (tagAt t n m) in
-          rw tag-same
-          (code-same (fieldPlace n m) (inOrder (tagAt t n m) n m) (dataOctets (tagAt t n m)) (isFull (tagAt t n m) n m) _ _
-          (omega arith) (values-same (tagAt t n m)))
+          let d = small-data (tagAt s n m) in
+          code-same (fieldPlace n m) (inOrder (tagAt s n m) n m) (dataOctets (tagAt s n m)) (isFull (tagAt s n m) n m) _ _
+          (omega arith) (values-same (tagAt s n m))
+          ∙ ap (λ (x : ℕ). fieldCode (fieldAt t (fieldPlace n m)) (inOrder x n m) (dataOctets x) (isFull x n m) (valuesGood t x n m)) tag-same
 
       field-same : (tag : ℕ) → goodField s tag n m ≡ goodField t tag n m
       unfolding goodField

@@ -8,7 +8,7 @@ use lib.ListN.{length}
 use borrow.Author.Tests.{lt-ltb, le-ltb, ltb-true, ltb-false, eq-eqb, ne-eqb, eqb-true, eqb-false}
 use Rattle.octets.specs.Numbers.{numberAt}
 use Rattle.octets.proofs.Tests.{split}
-use Rattle.tables.proofs.Leading.{leading-high}
+use Rattle.octets.proofs.Leading.{leading-high}
 use Rattle.layout.specs.Layout.{accountTag, linkTag, fieldPlace, dataPlace, imageLength, maxAccounts, maxLinks}
 use Rattle.image.specs.Read.{headCode, nextCode, goodField, accountCount, linkCount, refused, readEnd, readImage}
 use Rattle.image.specs.declared.Loaded.{Loaded}

@@ -6,20 +6,23 @@ use lib.ListN.{length, getD}
 use lib.Dec.{ltb, leb, eqb}
 use Rattle.octets.specs.Choice.{if_then_else_}
 use Rattle.octets.specs.Numbers.{numberAt}
-use Rattle.tables.specs.Leading.{leading}
-use Rattle.tables.specs.Rows.{Rows, Config, accountOctets, linkOctets, configOf}
+use Rattle.octets.specs.Leading.{leading}
+use Rattle.rows.specs.Rows.{Rows}
+use Rattle.tables.specs.Rows.{Config, accountOctets, linkOctets, configOf}
 use Rattle.tables.specs.Rules.{accountGood, linkGood}
-use Rattle.layout.specs.Layout.{headTag, accountTag, linkTag, endTag, edition, tagAndLength, headOctets, fieldPlace, dataPlace, imageLength, maxAccounts, maxLinks, editionPlace, constantOf, constantGood}
+use Rattle.fields.specs.Fields.{tagAndLength, fieldAt}
+use Rattle.fields.specs.declared.Field.{Field}
+use Rattle.layout.specs.Layout.{headTag, accountTag, linkTag, endTag, edition, headOctets, fieldPlace, dataPlace, imageLength, maxAccounts, maxLinks, editionPlace, constantOf, constantGood}
 use Rattle.image.specs.declared.Loaded.{Loaded}
 
--- the checks of a field at a place, in document 01's order: 20 without room for tag and length, 21 by the tag, 22 by the length, 20
--- without room for the data, 24 for one field too many, 23 for a value
-unfoldable pub fieldCode : List ℕ → ℕ → Bool → ℕ → Bool → Bool → ℕ
-fieldCode s at order size full good =
-    if not (leb (at + tagAndLength) (length s)) then 20
+-- the checks of a field, in document 01's order: 20 without room for tag and length, 21 by the tag, 22 by the length, 20 without
+-- room for the data, 24 for one field too many, 23 for a value
+unfoldable pub fieldCode : Field → Bool → ℕ → Bool → Bool → ℕ
+fieldCode f order size full good =
+    if not (f .headed) then 20
     else if not order then 21
-    else if not (eqb (numberAt 2 s (at + 1)) size) then 22
-    else if not (leb (at + tagAndLength + size) (length s)) then 20
+    else if not (eqb (f .size) size) then 22
+    else if not (f .whole) then 20
     else if full then 24
     else if not good then 23
     else 0
@@ -29,7 +32,7 @@ unfoldable pub headGood : List ℕ → Bool
 headGood s = eqb (getD s editionPlace 0) edition && constantGood (constantOf s)
 
 unfoldable pub headCode : List ℕ → ℕ
-headCode s = fieldCode s 0 (eqb (getD s 0 0) headTag) headOctets false (headGood s)
+headCode s = fieldCode (fieldAt s 0) (eqb (fieldAt s 0 .tag) headTag) headOctets false (headGood s)
 
 -- ---- the field behind n accounts and m links
 
@@ -67,10 +70,10 @@ valuesGood s tag n m =
 
 -- its code, or 0, for a tag; and for the tag that stands there
 abbrev pub codeByTag : List ℕ → ℕ → ℕ → ℕ → ℕ
-codeByTag s n m tag = fieldCode s (fieldPlace n m) (inOrder tag n m) (dataOctets tag) (isFull tag n m) (valuesGood s tag n m)
+codeByTag s n m tag = fieldCode (fieldAt s (fieldPlace n m)) (inOrder tag n m) (dataOctets tag) (isFull tag n m) (valuesGood s tag n m)
 
 abbrev pub tagAt : List ℕ → ℕ → ℕ → ℕ
-tagAt s n m = getD s (fieldPlace n m) 0
+tagAt s n m = fieldAt s (fieldPlace n m) .tag
 
 unfoldable pub nextCode : List ℕ → ℕ → ℕ → ℕ
 nextCode s n m = codeByTag s n m (tagAt s n m)

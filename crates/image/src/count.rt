@@ -2,7 +2,7 @@
 ghost use mathlib.Core.Path.{_≡_};
 ghost use Rattle.image.specs.Read.{accountCount, linkCount, readEnd};
 use super::Loaded;
-use super::fields;
+use super::field;
 use super::refused;
 use layout::codes;
 
@@ -12,7 +12,7 @@ pub(crate) fn count_accounts(image: &[u8]) -> u16
 {
     let mut i: u16 = 0;
     while i < layout::MAX_ACCOUNTS {
-        if !fields::good_field(image, layout::ACCOUNT_TAG, i, 0) {
+        if !field::good_account(image, i) {
             return i;
         }
         i += 1;
@@ -20,13 +20,16 @@ pub(crate) fn count_accounts(image: &[u8]) -> u16
     i
 }
 
-// The links behind the accounts, up to the first field that is none or is refused.
+// The links behind the accounts, up to the first field that is none or is refused. Without accounts there are none.
 pub(crate) fn count_links(image: &[u8], accounts: u16) -> u16
     ensures { λ r. ⌜ r ≡ linkCount (now (image .entry)) accounts ⌝ }
 {
+    if accounts == 0 {
+        return 0;
+    }
     let mut j: u16 = 0;
     while j < layout::MAX_LINKS {
-        if !fields::good_field(image, layout::LINK_TAG, accounts, j) {
+        if !field::good_link(image, accounts, j) {
             return j;
         }
         j += 1;
@@ -38,7 +41,7 @@ pub(crate) fn count_links(image: &[u8], accounts: u16) -> u16
 pub(crate) fn read_end(image: &[u8], accounts: u16, links: u16) -> Loaded
     ensures { λ r. ⌜ r ≡ readEnd (now (image .entry)) accounts links ⌝ }
 {
-    let code = fields::next_code(image, accounts, links);
+    let code = field::next_code(image, accounts, links);
     if code != 0 {
         return refused(code, layout::field_place(accounts, links));
     }

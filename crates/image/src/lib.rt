@@ -3,7 +3,7 @@ ghost use mathlib.Core.Path.{_≡_};
 ghost use Rattle.image.specs.Read.{refused, readImage};
 
 mod count;
-mod fields;
+mod field;
 
 // What reading or loading an image answers: the code, the offset that it speaks of, and on success the constant field
 // and the counts of accounts and links.
@@ -32,7 +32,7 @@ pub fn refused(code: u8, offset: usize) -> Loaded
 pub fn check(image: &[u8]) -> Loaded
     ensures { λ r. ⌜ r ≡ readImage (now (image .entry)) ⌝ }
 {
-    let code = fields::head_code(image);
+    let code = field::head_code(image);
     if code != 0 {
         return refused(code, 0);
     }

@@ -13,17 +13,13 @@ use Rattle.octets.specs.Runs.{octetsAt, joined, put}
 use Rattle.octets.proofs.Numbers.{length-octets}
 use Rattle.octets.proofs.Parts.{length-part, part-none, length-joined}
 use Rattle.octets.proofs.Runs.{put-one, put-after, lay-next, length-laid}
-use Rattle.tables.specs.Rows.{Config, accountOctets, linkOctets, tableOf, rowOctets}
-use Rattle.layout.specs.Layout.{headTag, accountTag, linkTag, endTag, edition, fieldOf, imageOf, tagAndLength, headOctets, headSize, accountSize, linkSize, fieldPlace, imageLength}
+use Rattle.rows.specs.Rows.{tableOf, rowOctets}
+use Rattle.tables.specs.Rows.{Config, accountOctets, linkOctets}
+use Rattle.fields.specs.Fields.{fieldOf, tagAndLength}
+use Rattle.fields.proofs.Fields.{length-field}
+use Rattle.layout.specs.Layout.{headTag, accountTag, linkTag, endTag, edition, imageOf, headOctets, headSize, accountSize, linkSize, fieldPlace, imageLength}
 
 -- ---- one field
-pub length-field : (tag : ℕ) (bytes : List ℕ) → length (fieldOf tag bytes) ≡ tagAndLength + length bytes
-unfolding fieldOf
-length-field tag bytes =
-    let l = length-octets 2 (length bytes) in
-    let a = length-append (octetsOf 2 (length bytes)) bytes in
-    omega arith
-
 pub field-laid : (d e f : List ℕ) (at tag size : ℕ) (bytes : List ℕ) → length bytes ≡ size → at + (tagAndLength + size) ≤ length d
     → e ≡ put (set d at tag) (at + 1) (octetsOf 2 size) → f ≡ put e (at + tagAndLength) bytes → f ≡ put d at (fieldOf tag bytes)
 unfolding fieldOf

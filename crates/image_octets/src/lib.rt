@@ -3,8 +3,10 @@ ghost use mathlib.Core.List.{_∷_};
 ghost use mathlib.Core.Path.{_≡_};
 ghost use Rattle.octets.specs.Numbers.{octetsOf};
 ghost use Rattle.octets.specs.Runs.{octetsAt, joined, put};
-ghost use Rattle.tables.specs.Rows.{tableOf, rowOctets, configOf};
-ghost use Rattle.layout.specs.Layout.{headTag, edition, fieldOf, imageOf};
+ghost use Rattle.rows.specs.Rows.{tableOf, rowOctets};
+ghost use Rattle.tables.specs.Rows.{configOf};
+ghost use Rattle.fields.specs.Fields.{fieldOf};
+ghost use Rattle.layout.specs.Layout.{headTag, edition, imageOf};
 
 // The head.
 fn put_head(room: &mut [u8], constant: u32)
@@ -23,12 +25,12 @@ fn put_head(room: &mut [u8], constant: u32)
 fn put_field(room: &mut [u8], at: usize, tag: u8, rows: &[u8], from: usize, size: u8)
     ensures { λ r. ⌜ now (room .exit) ≡ put (now (room .entry)) at (fieldOf tag (octetsAt size (now (rows .entry)) from)) ⌝ }
 {
-    if !octets::has_room(room.len(), at, layout::TAG_AND_LENGTH + size as usize) {
+    if !octets::has_room(room.len(), at, fields::TAG_AND_LENGTH + size as usize) {
         return;
     }
     room[at] = tag;
     laying::put_u16(room, at + 1, size as u16);
-    laying::copy(rows, from, size as usize, room, at + layout::TAG_AND_LENGTH);
+    laying::copy(rows, from, size as usize, room, at + fields::TAG_AND_LENGTH);
 }
 
 // The fields of the first n rows of `size` octets, from a place on.
@@ -36,7 +38,7 @@ fn put_fields(room: &mut [u8], at: usize, tag: u8, rows: &[u8], size: u8, n: u16
     ensures { λ r. ⌜ now (room .exit) ≡ put (now (room .entry)) at (joined (λ i. fieldOf tag (rowOctets size (tableOf size (now (rows .entry))) i)) n) ⌝ }
 {
     let wide = size as usize;
-    let step = layout::TAG_AND_LENGTH + wide;
+    let step = fields::TAG_AND_LENGTH + wide;
     if !octets::has_room(room.len(), at, step * n as usize) {
         return;
     }

@@ -12,7 +12,7 @@ use Rattle.octets.specs.Runs.{put}
 use Rattle.octets.proofs.Runs.{put-fits}
 use Rattle.tables.specs.Rows.{Config, accountTable, linkTable}
 use Rattle.tables.specs.Rules.{accountGood, linkGood}
-use Rattle.tables.proofs.Leading.{leading-is}
+use Rattle.octets.proofs.Leading.{leading-is}
 use Rattle.layout.specs.Layout.{fieldPlace, imageLength, imageOf}
 use Rattle.image_writer.specs.Writing.{countsGood, badAccount, badLink, writtenOf, valueAnswer, writeAnswer, Writing, writingOf, writing}
 use Rattle.image_writer.specs.Claims.{WriteRefuses, WriteAccepts, FirstBadConstant, FirstBadAccount, FirstBadLink, WriteCodes, RefusedWriteKeeps, WriteOffsets, WritesImage, ImageLength}

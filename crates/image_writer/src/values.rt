@@ -1,12 +1,13 @@
 // The checks of the values that an image is written from.
 ghost use mathlib.Core.Path.{_≡_};
-ghost use Rattle.tables.specs.Rows.{accountOctets, linkOctets, spacing, accountTable, linkTable, configOf};
+ghost use Rattle.rows.specs.Rows.{spacing};
+ghost use Rattle.tables.specs.Rows.{accountOctets, linkOctets, accountTable, linkTable, configOf};
 ghost use Rattle.tables.specs.Rules.{accountGood, linkGood};
-ghost use Rattle.tables.specs.Leading.{leading};
+ghost use Rattle.octets.specs.Leading.{leading};
 ghost use Rattle.image_writer.specs.Writing.{valueAnswer};
 use super::Written;
 use layout::codes;
-use tables::Spacing;
+use rows::Spacing;
 
 // Rows of accounts and of links that touch.
 fn account_rows() -> Spacing

@@ -3,7 +3,8 @@ use Prim.Native.Nat.{ℕ, _+_, _*_, _^_, _≤_, _<_}
 use mathlib.Core.Path.{_≡_}
 use native.Mathlib.Nat.{mul-le-mul}
 use native.Mathlib.Omega.{arith}
-use Rattle.layout.specs.Layout.{tagAndLength, accountSize, linkSize, fieldPlace, dataPlace}
+use Rattle.fields.specs.Fields.{tagAndLength}
+use Rattle.layout.specs.Layout.{accountSize, linkSize, fieldPlace, dataPlace}
 
 -- ---- where the data of accounts and links stand
 pub account-place : (i : ℕ) → dataPlace i 0 ≡ dataPlace 0 0 + accountSize * i

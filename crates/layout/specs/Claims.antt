@@ -4,7 +4,8 @@ use Prim.Native.Nat.{_*_, _^_}
 use mathlib.Core.Bool.{true, false}
 use mathlib.Core.List.{[], _∷_, map}
 use mathlib.Core.Path.{_≡_}
-use Rattle.layout.specs.Layout.{headTag, accountTag, linkTag, endTag, edition, headSize, accountSize, linkSize, tagAndLength, maxAccounts, maxLinks, longestImage, imagePrefix, constantGood}
+use Rattle.fields.specs.Fields.{tagAndLength}
+use Rattle.layout.specs.Layout.{headTag, accountTag, linkTag, endTag, edition, headSize, accountSize, linkSize, maxAccounts, maxLinks, longestImage, imagePrefix, constantGood}
 
 -- the figures: tags, edition, sizes of the fields, the limits, the longest image, and how much of any image settles its answer
 abbrev pub ImageFigures : Type 0

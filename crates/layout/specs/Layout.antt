@@ -2,11 +2,12 @@
 use Prim.Native.Nat.{ℕ, _+_, _*_, _/_, _%_, _^_}
 use mathlib.Core.Bool.{Bool}
 use mathlib.Core.List.{List, [], _∷_, _++_}
-use lib.ListN.{length}
 use lib.Dec.{eqb}
 use Rattle.octets.specs.Numbers.{numberAt, octetsOf}
 use Rattle.octets.specs.Runs.{joined}
-use Rattle.tables.specs.Rows.{Config, accountOctets, linkOctets, accountTable, linkTable, rowOctets}
+use Rattle.fields.specs.Fields.{tagAndLength, fieldOf}
+use Rattle.rows.specs.Rows.{rowOctets}
+use Rattle.tables.specs.Rows.{Config, accountOctets, linkOctets, accountTable, linkTable}
 
 -- the four tags, and the only edition
 abbrev pub headTag : ℕ
@@ -24,10 +25,6 @@ endTag = 9
 abbrev pub edition : ℕ
 edition = 1
 
--- one field: its tag, two octets of length, the data
-unfoldable pub fieldOf : ℕ → List ℕ → List ℕ
-fieldOf tag bytes = tag ∷ octetsOf 2 (length bytes) ++ bytes
-
 -- an image: the head, the accounts, the links, the end
 unfoldable pub imageOf : Config → List ℕ
 imageOf g =
@@ -36,10 +33,7 @@ imageOf g =
     ++ joined (λ j. fieldOf linkTag (rowOctets linkOctets (linkTable (g .links)) j)) (g .linkCount)
     ++ fieldOf endTag []
 
--- ---- sizes that follow: tag and length; the head's data; each field
-abbrev pub tagAndLength : ℕ
-tagAndLength = 3
-
+-- ---- sizes that follow: the head's data; each field
 abbrev pub headOctets : ℕ
 headOctets = 5
 

@@ -1,8 +1,8 @@
 // The layout of a configuration image: tags, sizes, limits, and where a field stands.
 ghost use mathlib.Core.Path.{_≡_};
 ghost use Rattle.layout.specs.Layout.{accountSize, linkSize, fieldPlace, dataPlace, imagePrefix, constantGood};
-ghost use Rattle.tables.specs.Rows.{spacing};
-use tables::Spacing;
+ghost use Rattle.rows.specs.Rows.{spacing};
+use rows::Spacing;
 
 pub mod codes;
 
@@ -17,16 +17,14 @@ pub const END_TAG: u8 = 9;
 
 pub const EDITION: u8 = 1;
 
-// Octets of a field's tag and length, of the head's data, and of whole fields.
-pub const TAG_AND_LENGTH: usize = 3;
-
+// Octets of the head's data, and of whole fields.
 pub const HEAD_OCTETS: usize = 5;
 
-pub const HEAD_SIZE: usize = TAG_AND_LENGTH + HEAD_OCTETS;
+pub const HEAD_SIZE: usize = fields::TAG_AND_LENGTH + HEAD_OCTETS;
 
-pub const ACCOUNT_SIZE: usize = TAG_AND_LENGTH + tables::ACCOUNT_OCTETS;
+pub const ACCOUNT_SIZE: usize = fields::TAG_AND_LENGTH + tables::ACCOUNT_OCTETS;
 
-pub const LINK_SIZE: usize = TAG_AND_LENGTH + tables::LINK_OCTETS;
+pub const LINK_SIZE: usize = fields::TAG_AND_LENGTH + tables::LINK_OCTETS;
 
 // The limits.
 pub const MAX_ACCOUNTS: u16 = 64;
@@ -39,7 +37,7 @@ pub const IMAGE_PREFIX: usize = HEAD_SIZE
     + LINK_SIZE * (MAX_LINKS as usize + 1);
 
 // The octet of the head's edition, and the first of its constant field.
-pub const EDITION_PLACE: usize = TAG_AND_LENGTH;
+pub const EDITION_PLACE: usize = fields::TAG_AND_LENGTH;
 
 pub const CONSTANT_PLACE: usize = EDITION_PLACE + 1;
 
@@ -61,7 +59,10 @@ pub fn field_place(accounts: u16, links: u16) -> usize
 pub fn data_place(accounts: u16, links: u16) -> usize
     ensures { λ r. ⌜ r ≡ dataPlace accounts links ⌝ }
 {
-    HEAD_SIZE + ACCOUNT_SIZE * accounts as usize + LINK_SIZE * links as usize + TAG_AND_LENGTH
+    HEAD_SIZE
+        + ACCOUNT_SIZE * accounts as usize
+        + LINK_SIZE * links as usize
+        + fields::TAG_AND_LENGTH
 }
 
 // Where the data of the accounts stand.

@@ -15,9 +15,11 @@ use Rattle.octets.proofs.Runs.{put-next, put-none, lay-next}
 use Rattle.account.specs.Account.{accountOf, capacityOf}
 use Rattle.account.specs.declared.Account.{Account}
 use Rattle.account.proofs.Methods.{valid-by}
-use Rattle.tables.specs.Rows.{accountOctets, linkOctets, termsAt, accountIn, rowOctets}
+use Rattle.rows.specs.Rows.{rowOctets}
+use Rattle.tables.specs.Rows.{accountOctets, linkOctets, termsAt, accountIn}
 use Rattle.tables.specs.Rules.{accountGood}
-use Rattle.layout.specs.Layout.{tagAndLength, dataPlace}
+use Rattle.fields.specs.Fields.{tagAndLength}
+use Rattle.layout.specs.Layout.{dataPlace}
 use Rattle.image.specs.Read.{fieldRows, accountFields}
 use Rattle.loader.specs.Loading.{Runs, runsOf, loadingOf, accountRows, linkRows, fullCredit, capacities, filled, answerFor, loading}
 use Rattle.image.specs.declared.Loaded.{Loaded}

@@ -16,7 +16,8 @@ use Rattle.octets.proofs.Tests.{split, both}
 use Rattle.octets.proofs.Parts.{length-part, getD-part, part-same, part-octet, length-joined, joined-at}
 use Rattle.octets.proofs.Runs.{put-fits}
 use Rattle.account.specs.Terms.{capacity}
-use Rattle.tables.specs.Rows.{Rows, accountOctets, linkOctets, accountTable, linkTable, accountIn, linkIn, rowOctets}
+use Rattle.rows.specs.Rows.{Rows, rowOctets}
+use Rattle.tables.specs.Rows.{accountOctets, linkOctets, accountTable, linkTable, accountIn, linkIn}
 use Rattle.tables.specs.Rules.{linkSound, numberRises, linkGood}
 use Rattle.tables.proofs.Rows.{terms-same, link-same}
 use Rattle.tables.proofs.Rules.{account-good-same, link-good-same}

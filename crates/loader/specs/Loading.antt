@@ -8,7 +8,8 @@ use lib.Dec.{leb, eqb}
 use Rattle.octets.specs.Choice.{if_then_else_}
 use Rattle.octets.specs.Runs.{joined, put}
 use Rattle.account.specs.Terms.{capacity}
-use Rattle.tables.specs.Rows.{Rows, accountOctets, linkOctets, accountIn, rowOctets}
+use Rattle.rows.specs.Rows.{Rows, rowOctets}
+use Rattle.tables.specs.Rows.{accountOctets, linkOctets, accountIn}
 use Rattle.image.specs.Read.{accountFields, linkFields, refused, readImage}
 use Rattle.image.specs.declared.Loaded.{Loaded}
 

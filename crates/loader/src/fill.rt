@@ -4,7 +4,8 @@ ghost use mathlib.Core.Path.{_≡_};
 ghost use lib.ListN.{replicate};
 ghost use Rattle.octets.specs.Runs.{joined, put};
 ghost use Rattle.account.specs.Account.{accountOf, capacityOf};
-ghost use Rattle.tables.specs.Rows.{accountIn, rowOctets};
+ghost use Rattle.rows.specs.Rows.{rowOctets};
+ghost use Rattle.tables.specs.Rows.{accountIn};
 ghost use Rattle.image.specs.Read.{fieldRows, accountFields};
 ghost use Rattle.loader.specs.Loading.{accountRows, linkRows};
 
@@ -19,7 +20,7 @@ fn copy_rows(image: &[u8], first: usize, size: u8, n: u16, rows: &mut [u8])
     let start = octets::least(first, image.len());
     let mut i: u16 = 0;
     while i < n {
-        let at = start + (layout::TAG_AND_LENGTH + wide) * i as usize;
+        let at = start + (fields::TAG_AND_LENGTH + wide) * i as usize;
         laying::copy(image, at, wide, rows, wide * i as usize);
         i += 1;
     }

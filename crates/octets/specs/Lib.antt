@@ -1,5 +1,6 @@
 pub mod Choice
 pub mod Claims
+pub mod Leading
 pub mod Lists
 pub mod Numbers
 pub mod Runs

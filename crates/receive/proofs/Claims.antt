@@ -1,6 +1,6 @@
 -- What holds of one call, by the row found and the answer. Assumes nothing.
 use Prim.Native.Nat.{ℕ, _+_, _*_, _≤_, _<_}
-use mathlib.Core.Bool.{false, not}
+use mathlib.Core.Bool.{false}
 use mathlib.Core.List.{List, [], _∷_, List·Memᴰ, List·Memᴰ·head, List·Memᴰ·tail}
 use mathlib.Core.Logic.{_⊎_, inl, inr}
 use mathlib.Core.Option.{some}
@@ -13,11 +13,9 @@ use borrow.Author.Tests.{eqb-true, eqb-false}
 use Rattle.octets.specs.Choice.{if_then_else_}
 use Rattle.octets.proofs.Tests.{split}
 use Rattle.octets.specs.Numbers.{numberAt}
-use Rattle.tables.specs.Leading.{leading}
-use Rattle.tables.specs.Rows.{tableOf, otherNumber, foundIn, linkAt}
-use Rattle.tables.specs.declared.Found.the-variants.{At, Nowhere}
-use Rattle.tables.proofs.Leading.{leading-same}
-use Rattle.tables.proofs.Claims.{first-found, none-found}
+use Rattle.rows.specs.Rows.{tableOf, rowNumber, foundIn}
+use Rattle.rows.specs.declared.Found.the-variants.{At, Nowhere}
+use Rattle.rows.proofs.Finding.{first-found, none-found, found-same}
 use Rattle.sequence.specs.Sequence.{numberCount}
 use Rattle.receive.specs.declared.Arrival.{Arrival}
 use Rattle.receive.specs.declared.Reception.{Reception}
@@ -27,7 +25,7 @@ use Rattle.receive.specs.Receive.{told, taken, left, answerBy, received}
 use Rattle.receive.specs.Claims.{AnswersApart, PossibleAnswers, RefusedKeeps, UnknownExactly, RowIsFirst, RowIsNowhere, RowsBeyondUnread, OnlyRecord, ChangesOwnRecord, StampAndNumberKept, SameRecord, ByOwnRecord}
 use Rattle.receive.proofs.Judging.{by-judged, refused-leaves, call-at, call-nowhere, by-row}
 use Rattle.receive.proofs.Kept.{kept-left, noted-stamp, noted-number, met-stamp, met-number, delivered-stamp, delivered-number}
-use Rattle.receive.proofs.Words.{number-inside, waits-inside, delivered-inside, records-inside, length-store, word-same, word-other, outside-before, outside-behind}
+use Rattle.receive.proofs.Words.{number-inside, waits-inside, delivered-inside, record-in-run, length-store, word-same, word-other, outside-before, outside-behind}
 
 -- ---- answers by their numbers
 heard : ℕ → Reception
@@ -96,8 +94,7 @@ unknown-exactly rows r f = (
 )
 
 -- ---- the row found
-number-in : (rows : List ℕ) (j : ℕ) → linkAt rows (0 + skewRowOctets * j) .number ≡ numberAt 2 rows (skewRowOctets * j)
-unfolding linkAt
+number-in : (rows : List ℕ) (j : ℕ) → rowNumber (tableOf skewRowOctets rows) j ≡ numberAt 2 rows (skewRowOctets * j)
 number-in rows j = ap (numberAt 2 rows) (zero-add (skewRowOctets * j))
 
 pub row-is-first : RowIsFirst
@@ -112,18 +109,16 @@ row-is-nowhere rows words link e j h q =
     none-found (tableOf skewRowOctets rows) (rowsInUse (length rows) words) link e j h (number-in rows j ∙ q)
 
 pub rows-beyond : RowsBeyondUnread
-unfolding rowFound foundIn
+unfolding rowFound
 rows-beyond rows words rows′ words′ link n same =
-    let e : leading (otherNumber (tableOf skewRowOctets rows) link) (rowsInUse (length rows) words) ≡ leading (otherNumber (tableOf skewRowOctets rows′) link) (rowsInUse (length rows) words)
-    = leading-same (otherNumber (tableOf skewRowOctets rows) link) (otherNumber (tableOf skewRowOctets rows′) link) (rowsInUse (length rows) words)
-    (λ j h. ap (λ (x : ℕ). not (eqb x link)) (number-in rows j ∙ same j h ∙ sym (number-in rows′ j))) in
-    rw (e, n) refl
+    found-same (tableOf skewRowOctets rows) (tableOf skewRowOctets rows′) (rowsInUse (length rows) words) link
+    (λ j h. number-in rows j ∙ same j h ∙ sym (number-in rows′ j))
+    ∙ ap (λ (m : ℕ). foundIn (tableOf skewRowOctets rows′) m link) n
 
 -- its record is lent whole
 pub record-whole : (rows : List ℕ) (words link j : ℕ) → rowFound rows words link ≡ At j → recordWords * j + recordWords ≤ words
 record-whole rows words link j e =
-    let l = row-is-first rows words link j e .0 in
-    let m = records-inside (length rows) words (rowsInUse (length rows) words) refl in omega arith
+    record-in-run (length rows) words _ refl j (row-is-first rows words link j e .0)
 
 -- ---- the records left
 pub only-record : (r : List ℕ) (j : ℕ) (f : Arrival) (a : Reception) → f .number < numberCount → OnlyRecord j r (left r j f a)

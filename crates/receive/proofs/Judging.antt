@@ -1,5 +1,5 @@
 -- Laws of what is answered, by cases of its definition, and of what an answer leaves. Assumes nothing.
-use Prim.Native.Nat.{ℕ, _+_, _*_, _-_, _≤_, _<_}
+use Prim.Native.Nat.{ℕ, _+_, _*_, _/_, _-_, _≤_, _<_}
 use mathlib.Core.Bool.{Bool, true, false, not, false≢true}
 use mathlib.Core.List.{List}
 use mathlib.Core.Option.{Option, none, some}
@@ -10,10 +10,10 @@ use lib.Dec.{leb, ltb}
 use borrow.Author.Tests.{lt-ltb, le-ltb, le-leb, lt-leb, ltb-true, ltb-false, eq-eqb, ne-eqb, not-true, not-false}
 use Rattle.octets.specs.Numbers.{numberAt}
 use Rattle.octets.proofs.Tests.{split}
-use Rattle.tables.specs.Rows.{tableOf, foundIn}
-use Rattle.tables.specs.declared.Found.{Found}
-use Rattle.tables.specs.declared.Found.the-variants.{At, Nowhere}
-use Rattle.tables.proofs.Claims.{first-found}
+use Rattle.rows.specs.Rows.{tableOf, inUse, foundIn}
+use Rattle.rows.specs.declared.Found.{Found}
+use Rattle.rows.specs.declared.Found.the-variants.{At, Nowhere}
+use Rattle.rows.proofs.Finding.{first-found}
 use Rattle.receive.specs.declared.Arrival.{Arrival}
 use Rattle.receive.specs.declared.Network.{Network}
 use Rattle.receive.specs.declared.Reception.{Reception}
@@ -21,7 +21,7 @@ use Rattle.receive.specs.declared.Reception.the-variants.{Delivered, Cop
 use Rattle.sequence.specs.Sequence.{passes, numberOf}
 use Rattle.receive.specs.Lent.{other, skewRowOctets, skewIn, recordWords, rowsInUse, rowFound, numberPlace, waitsPlace, deliveredPlace, stampPlace, word, store, deliveryOf, noted, met, delivered}
 use Rattle.receive.specs.Receive.{taken, inSkew, judged, left, After, afterOf, answerBy, onRecord, onRow, received}
-use Rattle.receive.proofs.Words.{rows-inside, records-inside}
+use Rattle.receive.proofs.Words.{row-in-run, record-in-run}
 
 -- ---- a delivery by its two words
 pub delivery-none : (w d : ℕ) → w ≡ 0 → deliveryOf w d ≡ none
@@ -184,10 +184,10 @@ by-row rows r f P nowhere at = cases (rowFound rows (length r) (f .link)) refl
     cases (At j) e = rw e (at j e)
 
 -- as the code finds it
-module _ (rows r : List ℕ) (f : Arrival) (used : ℕ) (e : used ≡ rowsInUse (length rows) (length r)) (d : Found) (g : d ≡ foundIn (tableOf skewRowOctets rows) used (f .link)) where
+module _ (rows r : List ℕ) (f : Arrival) (d : Found) (g : d ≡ foundIn (tableOf skewRowOctets rows) (inUse skewRowOctets (length rows) (length r / recordWords)) (f .link)) where
   row-is : d ≡ rowFound rows (length r) (f .link)
-  unfolding rowFound
-  row-is = g ∙ ap (λ (n : ℕ). foundIn (tableOf skewRowOctets rows) n (f .link)) e
+  unfolding rowFound rowsInUse
+  row-is = g
 
   called-by : onRow rows r f d ≡ received rows r f
   unfolding received
@@ -197,14 +197,15 @@ module _ (rows r : List ℕ) (f : Arrival) (used : ℕ) (e : used ≡ rowsInUse 
   call-unknown q = ap (onRow rows r f) (sym q) ∙ called-by
 
   module _ (j : ℕ) (q : d ≡ At j) where
-    row-low : j < used
-    row-low = first-found (tableOf skewRowOctets rows) used (f .link) j (sym g ∙ q) .0
+    row-low : j < rowsInUse (length rows) (length r)
+    unfolding rowsInUse
+    row-low = first-found (tableOf skewRowOctets rows) _ (f .link) j (sym g ∙ q) .0
 
     pub row-lent : skewRowOctets * j + skewRowOctets ≤ length rows
-    row-lent = let l = row-low in let m = rows-inside (length rows) (length r) used e in omega arith
+    row-lent = row-in-run (length rows) (length r) _ refl j row-low
 
     pub record-lent : recordWords * j + recordWords ≤ length r
-    record-lent = let l = row-low in let m = records-inside (length rows) (length r) used e in omega arith
+    record-lent = record-in-run (length rows) (length r) _ refl j row-low
 
     pub call-answered : (skew : ℕ) → skew ≡ numberAt 4 rows (skewRowOctets * j + 2) → (a : Reception) → a ≡ answerBy skew r j f
         → (s : List ℕ) → s ≡ left r j f a → afterOf a s ≡ received rows r f

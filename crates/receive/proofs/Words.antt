@@ -1,11 +1,12 @@
 -- Laws of records: words read and stored, rows in use. Assumes nothing.
-use Prim.Native.Nat.{ℕ, _+_, _*_, _/_, _≤_, _<_, min}
+use Prim.Native.Nat.{ℕ, _+_, _*_, _/_, _≤_, _<_}
 use mathlib.Core.List.{List}
 use mathlib.Core.Path.{_≡_, refl}
-use native.Mathlib.Nat.{min-le-left, min-le-right, div-mul-le-self, mul-comm}
+use native.Mathlib.Nat.{min-le-left, div-mul-le-self}
 use native.Mathlib.Omega.{arith}
 use lib.ListN.{length, getD, set, length-set}
 use lib.Seq.{getD-set-same, getD-set-other}
+use Rattle.rows.proofs.Rows.{row-inside}
 use Rattle.receive.specs.declared.Network.{Network}
 use Rattle.receive.specs.declared.Network.the-variants.{A, B}
 use Rattle.receive.specs.Lent.{index, skewRowOctets, recordWords, rowsInUse, numberPlace, waitsPlace, word, store}
@@ -38,25 +39,17 @@ pub length-store : (r : List ℕ) (j k v : ℕ) → length (store r j k v) ≡ l
 unfolding store
 length-store r j k v = length-set r (recordWords * j + k) v
 
--- ---- rows in use
-pub in-use-is : (octets words n : ℕ) → n ≡ min (octets / skewRowOctets) (words / recordWords) → n ≡ rowsInUse octets words
-unfolding rowsInUse
-in-use-is octets words n e = e
-
--- so many lie in both runs
+-- ---- rows in use: so many lie in both runs
 module _ (octets words n : ℕ) (e : n ≡ rowsInUse octets words) where
-  pub rows-inside : skewRowOctets * n ≤ octets
+  pub row-in-run : (j : ℕ) → j < n → skewRowOctets * j + skewRowOctets ≤ octets
   unfolding rowsInUse
-  rows-inside =
-      let m = min-le-left (octets / skewRowOctets) (words / recordWords) in
-      let d : skewRowOctets * (octets / skewRowOctets) ≤ octets = rw (mul-comm skewRowOctets (octets / skewRowOctets)) (div-mul-le-self octets skewRowOctets) in
-      omega arith
+  row-in-run j h = row-inside skewRowOctets octets (words / recordWords) n e j h
 
-  pub records-inside : recordWords * n ≤ words
+  pub record-in-run : (j : ℕ) → j < n → recordWords * j + recordWords ≤ words
   unfolding rowsInUse
-  records-inside =
-      let m = min-le-right (octets / skewRowOctets) (words / recordWords) in
-      let d : recordWords * (words / recordWords) ≤ words = rw (mul-comm recordWords (words / recordWords)) (div-mul-le-self words recordWords) in
+  record-in-run j h =
+      let m : n ≤ words / recordWords = rw e (min-le-left (words / recordWords) (octets / skewRowOctets)) in
+      let d = div-mul-le-self words recordWords in
       omega arith
 
 -- ---- a word read where another was stored. In the same record

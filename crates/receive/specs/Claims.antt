@@ -6,7 +6,7 @@ use mathlib.Core.Option.{some}
 use mathlib.Core.Path.{_≡_}
 use lib.ListN.{length, getD}
 use Rattle.octets.specs.Numbers.{numberAt}
-use Rattle.tables.specs.declared.Found.the-variants.{At, Nowhere}
+use Rattle.rows.specs.declared.Found.the-variants.{At, Nowhere}
 use Rattle.receive.specs.declared.Arrival.{Arrival}
 use Rattle.receive.specs.declared.Reception.{Reception}
 use Rattle.receive.specs.declared.Reception.the-variants.{UnknownLink, Late}

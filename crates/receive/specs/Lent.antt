@@ -1,6 +1,6 @@
 -- What a receiving end is lent (document 02, Q-1): a row for each link and, in a run of their own, a record for each row in use. The
 -- papers leave their form open; it is stated here.
-use Prim.Native.Nat.{ℕ, _+_, _*_, _/_, min}
+use Prim.Native.Nat.{ℕ, _+_, _*_, _/_}
 use mathlib.Core.List.{List}
 use mathlib.Core.Option.{Option, none, some}
 use lib.ListN.{length, getD, set}
@@ -8,8 +8,8 @@ use lib.Dec.{eqb}
 use Rattle.octets.specs.Choice.{if_then_else_}
 use Rattle.octets.specs.Numbers.{numberAt}
 use Rattle.sequence.specs.Sequence.{numberOf}
-use Rattle.tables.specs.Rows.{tableOf, foundIn}
-use Rattle.tables.specs.declared.Found.{Found}
+use Rattle.rows.specs.Rows.{tableOf, inUse, foundIn}
+use Rattle.rows.specs.declared.Found.{Found}
 use Rattle.receive.specs.declared.Arrival.{Arrival}
 use Rattle.receive.specs.declared.Network.{Network}
 use Rattle.receive.specs.declared.Network.the-variants.{A, B}
@@ -41,9 +41,9 @@ recordWords = 1027
 
 -- rows in use: those of which row and record are lent whole
 unfoldable pub rowsInUse : ℕ → ℕ → ℕ
-rowsInUse octets words = min (octets / skewRowOctets) (words / recordWords)
+rowsInUse octets words = inUse skewRowOctets octets (words / recordWords)
 
--- the row of a link: the first in use with its number. These rows begin with it, as the switch's rows of links do
+-- the row of a link: the first in use with its number
 unfoldable pub rowFound : List ℕ → ℕ → ℕ → Found
 rowFound rows words link = foundIn (tableOf skewRowOctets rows) (rowsInUse (length rows) words) link
 

@@ -4,16 +4,17 @@ ghost use mathlib.Core.Path.{_≡_};
 ghost use Prim.Native.Nat.{_+_, _*_, _≤_};
 ghost use lib.ListN.{length};
 ghost use Rattle.sequence.specs.Sequence.{numberOf};
-ghost use Rattle.tables.specs.Rows.{tableOf, foundIn};
-ghost use Rattle.receive.specs.Lent.{other, skewRowOctets, rowsInUse, recordWords, deliveryOf};
+ghost use Rattle.receive.specs.Lent.{other, recordWords, deliveryOf};
 ghost use Rattle.receive.specs.Receive.{told, taken, inSkew, judged, answerBy, afterOf, received};
 
 mod records;
 
-use tables::Found;
+use rows::Found;
 
 // Octets of a row: link number (2), SkewMax in microseconds (4).
-pub const ROW_OCTETS: usize = 6;
+const SKEW_OCTETS: u8 = 4;
+
+pub const ROW_OCTETS: usize = rows::NUMBER_OCTETS + SKEW_OCTETS as usize;
 
 // Words of a record; all are 0 where it is empty.
 pub const RECORD_WORDS: usize = 1027;
@@ -75,28 +76,6 @@ fn other(network: Network) -> Network
         Network::A => Network::B,
         Network::B => Network::A,
     }
-}
-
-// Rows in use: those of which row and record are lent whole.
-fn rows_in_use(octets: usize, words: usize) -> usize
-    ensures { λ r. ⌜ r ≡ rowsInUse octets words ⌝ }
-{
-    octets::least(octets / ROW_OCTETS, words / RECORD_WORDS)
-}
-
-// The first of so many rows that has the number.
-fn find(rows: &[u8], used: usize, link: u16) -> Found
-    requires { ⌜ skewRowOctets * used ≤ length (now rows) ⌝ }
-    ensures { λ r. ⌜ r ≡ foundIn (tableOf skewRowOctets (now (rows .entry))) used link ⌝ }
-{
-    let mut i = 0;
-    while i < used {
-        if octets::u16_at(rows, ROW_OCTETS * i) == link {
-            return Found::At(i);
-        }
-        i += 1;
-    }
-    Found::Nowhere
 }
 
 // Whether a delivery awaits its copy and is no more than SkewMax old at a stamp, nor stamped after it.
@@ -165,8 +144,8 @@ fn answer_by(skew: u32, records: &[u64], row: usize, frame: Arrival) -> Receptio
 pub fn receive(frame: Arrival, rows: &[u8], records: &mut [u64]) -> Reception
     ensures { λ r. ⌜ afterOf r (now (records .exit)) ≡ received (now (rows .entry)) (now (records .entry)) frame ⌝ }
 {
-    let used = rows_in_use(rows.len(), records.len());
-    match find(rows, used, frame.link) {
+    let count = records.len() / RECORD_WORDS;
+    match rows::find(rows, SKEW_OCTETS, count, frame.link) {
         Found::Nowhere => Reception::UnknownLink,
         Found::At(row) => {
             let skew = octets::u32_at(rows, ROW_OCTETS * row + 2);

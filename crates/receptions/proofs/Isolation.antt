@@ -10,8 +10,8 @@ use Rattle.octets.specs.Lists.{only}
 use Rattle.octets.proofs.Lists.{only-none, only-take, only-drop}
 use Rattle.octets.proofs.Parts.{part-same, part-take}
 use Rattle.octets.proofs.Tests.{split}
-use Rattle.tables.specs.declared.Found.{Found}
-use Rattle.tables.specs.declared.Found.the-variants.{At, Nowhere}
+use Rattle.rows.specs.declared.Found.{Found}
+use Rattle.rows.specs.declared.Found.the-variants.{At, Nowhere}
 use Rattle.sequence.specs.Sequence.{numberCount}
 use Rattle.receive.specs.declared.Arrival.{Arrival}
 use Rattle.receive.specs.declared.Reception.the-variants.{UnknownLink}

@@ -1,14 +1,15 @@
 -- Laws of a log's records, one for each answer. Assumes nothing.
 use Prim.Native.Nat.{ℕ, _+_, _-_, _≤_, _<_}
-use mathlib.Core.Path.{_≡_, sym, _∙_}
+use mathlib.Core.Path.{_≡_, sym, ap, _∙_}
 use mathlib.Core.Bool.{Bool, true, false, not}
 use mathlib.Core.List.{List}
 use lib.Dec.{leb, ltb}
 use lib.ListN.{length, getD}
-use borrow.Author.Tests.{le-leb, lt-leb, lt-ltb, le-ltb, eq-eqb, ne-eqb, not-true, not-false}
+use borrow.Author.Tests.{le-leb, leb-true, lt-leb, lt-ltb, le-ltb, eq-eqb, ne-eqb, not-true, not-false}
 use Rattle.octets.specs.Numbers.{numberAt}
-use Rattle.layout.specs.Layout.{tagAndLength}
-use Rattle.rig.specs.Records.{recordTag, timeOctets, stampOctets, portPlace, frameStart, lengthAt, unsettled, stampAt, recordAt, nextIn}
+use Rattle.fields.specs.Fields.{tagAndLength, lengthAt, fieldAt}
+use Rattle.fields.specs.declared.Field.{Field}
+use Rattle.rig.specs.Records.{recordTag, timeOctets, stampOctets, portPlace, frameStart, unsettled, stampAt, recordAt, nextIn}
 use Rattle.rig.specs.declared.log.Entry.{Entry}
 use Rattle.rig.specs.declared.log.Entry.the-variants.{Frame, More, Cut, End}
 
@@ -41,6 +42,28 @@ module _ (s : List ℕ) (at : ℕ) (w : Bool) (n : ℕ) (e : n ≡ lengthAt s at
         → Frame (record { time = t; port = p; start = at + frameStart; size = n - stampOctets; behind = at + (tagAndLength + n) }) ≡ recordAt s at w
     unfolding recordAt stampAt
     stamped-frame t p l g k = simp (test, sym room ∙ not-false b l, g, k, e)
+
+-- the same, by the field that stands there
+module _ (s : List ℕ) (at : ℕ) (w : Bool) (g : Field) (e : g ≡ fieldAt s at) where
+  size-is : g .size ≡ lengthAt s at
+  size-is = ap (λ (x : Field). x .size) e
+
+  room-is : g .whole ≡ leb (at + (tagAndLength + g .size)) (length s)
+  room-is = ap (λ (x : Field). x .whole) e ∙ ap (λ (n : ℕ). leb (at + (tagAndLength + n)) (length s)) (sym size-is)
+
+  pub field-inside : not (g .whole) ≡ false → at + (tagAndLength + g .size) ≤ length s
+  field-inside h = leb-true _ _ (sym room-is ∙ not-false (g .whole) h)
+
+  pub field-short : g .size < stampOctets → Cut ≡ recordAt s at w
+  field-short = stamped-short s at w (g .size) size-is
+
+  module _ (h : stampOctets ≤ g .size) where
+    pub field-open : (x : Entry) → not (g .whole) ≡ true → x ≡ unsettled w → x ≡ recordAt s at w
+    field-open = stamped-open s at w (g .size) size-is h (g .whole) room-is
+
+    pub field-frame : (t p : ℕ) → not (g .whole) ≡ false → t ≡ numberAt timeOctets s (at + tagAndLength) → p ≡ getD s (at + portPlace) 0
+        → Frame (record { time = t; port = p; start = at + frameStart; size = g .size - stampOctets; behind = at + (tagAndLength + g .size) }) ≡ recordAt s at w
+    field-frame = stamped-frame s at w (g .size) size-is h (g .whole) room-is
 
 -- ---- what stands at a place
 module _ (s : List ℕ) (at : ℕ) (w : Bool) where

@@ -12,8 +12,8 @@ use borrow.Author.Tests.{le-leb, lt-leb, leb-true, leb-false, ltb-true, ltb-fals
 use Rattle.octets.specs.Numbers.{numberAt}
 use Rattle.octets.proofs.Numbers.{number-shift, number-below}
 use Rattle.octets.proofs.Tests.{split}
-use Rattle.layout.specs.Layout.{tagAndLength}
-use Rattle.rig.specs.Records.{recordTag, timeOctets, stampOctets, portPlace, frameStart, lengthAt, unsettled, recordAt, nextIn}
+use Rattle.fields.specs.Fields.{tagAndLength, lengthAt}
+use Rattle.rig.specs.Records.{recordTag, timeOctets, stampOctets, portPlace, frameStart, unsettled, recordAt, nextIn}
 use Rattle.rig.specs.Claims.{moved, NextSettled, NextMoved, NeverMore, FrameInside}
 use Rattle.rig.specs.declared.log.Stamped.{Stamped}
 use Rattle.rig.specs.declared.log.Entry.{Entry}

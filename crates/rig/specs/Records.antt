@@ -1,4 +1,4 @@
--- The records of a log of frames (document 01, "The replay program", `rig.frames`).
+-- The records of a log of frames, tagged fields (document 01, "The replay program", `rig.frames`).
 use Prim.Native.Nat.{ℕ, _+_, _-_}
 use mathlib.Core.Bool.{Bool, not}
 use mathlib.Core.List.{List}
@@ -6,7 +6,7 @@ use lib.ListN.{length, getD}
 use lib.Dec.{leb, ltb, eqb}
 use Rattle.octets.specs.Choice.{if_then_else_}
 use Rattle.octets.specs.Numbers.{numberAt}
-use Rattle.layout.specs.Layout.{tagAndLength}
+use Rattle.fields.specs.Fields.{tagAndLength, lengthAt, fieldAt}
 use Rattle.rig.specs.declared.log.Stamped.{Stamped}
 use Rattle.rig.specs.declared.log.Entry.{Entry}
 use Rattle.rig.specs.declared.log.Entry.the-variants.{Frame, More, Cut, End}
@@ -32,10 +32,6 @@ frameStart = tagAndLength + stampOctets
 abbrev pub longestRecord : ℕ
 longestRecord = tagAndLength + 65535
 
--- the length that a record at a place names
-abbrev pub lengthAt : List ℕ → ℕ → ℕ
-lengthAt s at = numberAt 2 s (at + 1)
-
 -- too few octets: the log is cut where no more follow
 unfoldable pub unsettled : Bool → Entry
 unsettled whole = if whole then Cut else More
@@ -55,13 +51,13 @@ stampAt s at =
 unfoldable pub recordAt : List ℕ → ℕ → Bool → Entry
 recordAt s at whole =
     if ltb (lengthAt s at) stampOctets then Cut
-    else if not (leb (at + (tagAndLength + lengthAt s at)) (length s)) then unsettled whole
+    else if not (fieldAt s at .whole) then unsettled whole
     else Frame (stampAt s at)
 
 -- what stands at a place of the octets s; `whole` says that the log has none behind them
 unfoldable pub nextIn : List ℕ → ℕ → Bool → Entry
 nextIn s at whole =
     if leb (length s) at then (if whole then End else More)
-    else if not (eqb (getD s at 0) recordTag) then Cut
-    else if not (leb (at + tagAndLength) (length s)) then unsettled whole
+    else if not (eqb (fieldAt s at .tag) recordTag) then Cut
+    else if not (fieldAt s at .headed) then unsettled whole
     else recordAt s at whole

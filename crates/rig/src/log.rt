@@ -1,10 +1,9 @@
 // The records of a log of frames: tag 16, two octets of length, eight of time, one of the port, and the frame.
 ghost use mathlib.Core.Path.{_≡_};
-ghost use Prim.Native.Nat.{_+_, _≤_};
-ghost use lib.ListN.{length};
 ghost use Rattle.rig.specs.Records.{longestRecord, nextIn, recordAt, unsettled};
-ghost use Rattle.layout.specs.Layout.{tagAndLength};
+ghost use Rattle.fields.specs.Fields.{fieldAt};
 ghost use Rattle.octets.specs.Runs.{octetsAt, put};
+use fields::Field;
 
 const RECORD_TAG: u8 = 16;
 
@@ -14,12 +13,12 @@ const TIME_OCTETS: usize = 8;
 const STAMP_OCTETS: usize = TIME_OCTETS + 1;
 
 // How far into a record its port stands, and its frame.
-const PORT_PLACE: usize = layout::TAG_AND_LENGTH + TIME_OCTETS;
+const PORT_PLACE: usize = fields::TAG_AND_LENGTH + TIME_OCTETS;
 
-const FRAME_START: usize = layout::TAG_AND_LENGTH + STAMP_OCTETS;
+const FRAME_START: usize = fields::TAG_AND_LENGTH + STAMP_OCTETS;
 
 // The longest record. So many octets from a place on always settle what stands there.
-pub const LONGEST_RECORD: usize = layout::TAG_AND_LENGTH + 65535;
+pub const LONGEST_RECORD: usize = fields::TAG_AND_LENGTH + 65535;
 
 // The same as a value.
 pub fn longest_record() -> usize
@@ -55,24 +54,24 @@ fn unsettled(whole: bool) -> Entry
     if whole { Entry::Cut } else { Entry::More }
 }
 
-// The record at a place whose tag and length are there.
-fn record_at(log: &[u8], at: usize, whole: bool) -> Entry
-    requires { ⌜ at + tagAndLength ≤ length (now log) ⌝ }
+// The record at an offset, by the field that stands there.
+fn record_at(log: &[u8], at: usize, field: Field, whole: bool) -> Entry
+    requires { ⌜ field ≡ fieldAt (now log) at ⌝ }
     ensures { λ r. ⌜ r ≡ recordAt (now (log .entry)) at whole ⌝ }
 {
-    let length = octets::u16_at(log, at + 1) as usize;
+    let length = field.size as usize;
     if length < STAMP_OCTETS {
         return Entry::Cut;
     }
-    if !octets::has_room(log.len(), at, layout::TAG_AND_LENGTH + length) {
+    if !field.whole {
         return unsettled(whole);
     }
     Entry::Frame(Stamped {
-        time: octets::u64_at(log, at + layout::TAG_AND_LENGTH),
+        time: octets::u64_at(log, at + fields::TAG_AND_LENGTH),
         port: octets::octet_at(log, at + PORT_PLACE),
         start: at + FRAME_START,
         size: length - STAMP_OCTETS,
-        behind: at + (layout::TAG_AND_LENGTH + length),
+        behind: at + (fields::TAG_AND_LENGTH + length),
     })
 }
 
@@ -83,13 +82,14 @@ pub fn next(log: &[u8], at: usize, whole: bool) -> Entry
     if log.len() <= at {
         return if whole { Entry::End } else { Entry::More };
     }
-    if octets::octet_at(log, at) != RECORD_TAG {
+    let field = fields::read(log, at);
+    if field.tag != RECORD_TAG {
         return Entry::Cut;
     }
-    if !octets::has_room(log.len(), at, layout::TAG_AND_LENGTH) {
+    if !field.headed {
         return unsettled(whole);
     }
-    record_at(log, at, whole)
+    record_at(log, at, field, whole)
 }
 
 // A part of a log moved to its front, for more to be read behind it.

@@ -3,7 +3,7 @@
 use super::images;
 use super::say;
 use image_writer::Written;
-use tables::Found;
+use rows::Found;
 
 const MOST: usize = 18446744073709551615;
 

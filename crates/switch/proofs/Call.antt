@@ -15,7 +15,7 @@ use Rattle.account.specs.declared.Account.{Account}
 use Rattle.account.proofs.Methods.{none-invalid, some-valid}
 use Rattle.tables.specs.Rows.{Config, accountOctets, termsAt, found}
 use Rattle.tables.specs.Rules.{linkSound}
-use Rattle.tables.specs.declared.Found.{Found}
+use Rattle.rows.specs.declared.Found.{Found}
 use Rattle.tables.specs.declared.Link.{Link}
 use Rattle.tables.proofs.Rows.{terms-within}
 use Rattle.tables.proofs.Rules.{account-past}

@@ -20,12 +20,14 @@ use Rattle.account.specs.declared.Account.{Account}
 use Rattle.account.specs.declared.Outcome.the-variants as outcome
 use Rattle.account.proofs.Step.{by-step}
 use Rattle.account.proofs.Claims.{step-below-capacity}
-use Rattle.tables.specs.Rows.{Config, linkTable, linkIn, linksInUse, foundIn, found}
+use Rattle.rows.specs.Rows.{foundIn}
+use Rattle.tables.specs.Rows.{Config, linkTable, linkIn, linksInUse, found}
 use Rattle.tables.specs.Rules.{portCount, linkSound}
-use Rattle.tables.specs.declared.Found.{Found}
-use Rattle.tables.specs.declared.Found.the-variants.{At, Nowhere}
+use Rattle.rows.specs.declared.Found.{Found}
+use Rattle.rows.specs.declared.Found.the-variants.{At, Nowhere}
 use Rattle.tables.specs.declared.Link.{Link}
-use Rattle.tables.proofs.Claims.{first-found, found-same}
+use Rattle.rows.proofs.Finding.{first-found}
+use Rattle.tables.proofs.Claims.{links-same}
 use Rattle.tables.proofs.Rules.{account-past, sound-port, sound-sizes}
 use Rattle.switch.specs.declared.Verdict.{Verdict}
 use Rattle.switch.specs.declared.Verdict.the-variants.{Forwarded, Short, Late, Refused}
@@ -356,7 +358,7 @@ module _ (g : Config) (s : State) (g′ : Config) (s′ : State) (e : SameInUse 
 
   found-alike : found (g .links) (g .linkCount) number ≡ found (g′ .links) (g′ .linkCount) number
   found-alike =
-      found-same (linkTable (g .links)) (linkTable (g′ .links)) (linksInUse (g .links) (g .linkCount)) number (e .rows)
+      links-same (linkTable (g .links)) (linkTable (g′ .links)) (linksInUse (g .links) (g .linkCount)) number (e .rows)
       ∙ ap (λ (n : ℕ). foundIn (linkTable (g′ .links)) n number) (e .links)
 
   code-alike : frameCode (g .constant) (f .octets) ≡ frameCode (g′ .constant) (f .octets)

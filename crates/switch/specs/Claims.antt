@@ -16,8 +16,8 @@ use Rattle.account.specs.Account.{termsOf, valid, creditAt}
 use Rattle.account.specs.declared.Account.{Account}
 use Rattle.tables.specs.Rows.{Config, linkTable, linkIn, linksInUse, found}
 use Rattle.tables.specs.Rules.{portCount, linkSound}
-use Rattle.tables.specs.declared.Found.{Found}
-use Rattle.tables.specs.declared.Found.the-variants.{At, Nowhere}
+use Rattle.rows.specs.declared.Found.{Found}
+use Rattle.rows.specs.declared.Found.the-variants.{At, Nowhere}
 use Rattle.tables.specs.declared.Link.{Link}
 use Rattle.switch.specs.declared.Verdict.{Verdict}
 use Rattle.switch.specs.Verdict.{tells, told}

@@ -1,5 +1,4 @@
 pub mod Claims
-pub mod Leading
 pub mod Lookup
 pub mod Rows
 pub mod Rules

@@ -4,13 +4,13 @@ use mathlib.Core.List.{List}
 use mathlib.Core.Path.{_≡_, refl, sym, ap, _∙_}
 use native.Mathlib.Nat.{zero-add}
 use lib.ListN.{length}
+use Rattle.rows.specs.declared.Found.{Found}
+use Rattle.rows.specs.declared.Found.the-variants.{At, Nowhere}
+use Rattle.rows.proofs.Finding.{first-found}
+use Rattle.rows.proofs.Rows.{row-inside}
 use Rattle.tables.specs.Rows.{linkOctets, linkAt, linkTable, linksInUse, found, soughtIn}
-use Rattle.tables.specs.declared.Found.{Found}
-use Rattle.tables.specs.declared.Found.the-variants.{At, Nowhere}
 use Rattle.tables.specs.declared.Link.{Link}
 use Rattle.tables.specs.declared.Sought.the-variants.{Present, Absent}
-use Rattle.tables.proofs.Claims.{first-found}
-use Rattle.tables.proofs.Rows.{row-inside}
 
 module _ (links : List ℕ) (count x : ℕ) (d : Found) (e : d ≡ found links count x) where
   pub sought-absent : d ≡ Nowhere → Absent ≡ soughtIn links (found links count x)
@@ -19,7 +19,7 @@ module _ (links : List ℕ) (count x : ℕ) (d : Found) (e : d ≡ found links c
   module _ (j : ℕ) (r : d ≡ At j) where
     -- a row that is found lies inside the run
     pub found-inside : linkOctets * j + linkOctets ≤ length links
-    found-inside = row-inside links count (linksInUse links count) j refl (first-found (linkTable links) (linksInUse links count) x j (sym e ∙ r) .0)
+    found-inside = row-inside linkOctets (length links) count (linksInUse links count) refl j (first-found (linkTable links) (linksInUse links count) x j (sym e ∙ r) .0)
 
     pub sought-present : (l : Link) → l ≡ linkAt links (linkOctets * j) → Present l ≡ soughtIn links (found links count x)
     sought-present l k = ap Present (k ∙ ap (linkAt links) (sym (zero-add (linkOctets * j)))) ∙ ap (soughtIn links) (sym r ∙ e)

@@ -1,23 +1,19 @@
--- Laws of rows: reading past the end, the same octets at two places, and the search for a number. Assumes nothing.
-use Prim.Native.Nat.{ℕ, suc, _+_, _*_, _/_, _^_, _≤_, _<_, min}
-use mathlib.Core.Bool.{not}
+-- Laws of rows of accounts and links: the same octets at two places, a row read value by value. Assumes nothing.
+use Prim.Native.Nat.{ℕ, _+_, _≤_, _<_, min}
 use mathlib.Core.List.{List}
-use mathlib.Core.Path.{_≡_, sym, ap, _∙_}
-use native.Mathlib.Nat.{mul-le-mul, zero-add, add-assoc, min-le-right, div-mul-le-self, mul-comm}
+use mathlib.Core.Path.{_≡_, ap, _∙_}
+use native.Mathlib.Nat.{zero-add, add-assoc}
 use native.Mathlib.Omega.{arith}
 use lib.ListN.{length, getD, take, drop}
-use borrow.Author.Tests.{lt-ltb, le-ltb, eq-eqb, ne-eqb}
 use Rattle.octets.specs.Numbers.{numberAt}
 use Rattle.octets.proofs.Numbers.{number-shift}
 use Rattle.octets.specs.Runs.{octetsAt, put}
-use Rattle.octets.proofs.Parts.{getD-clamped, getD-within, length-part, getD-part, part-octet}
+use Rattle.octets.proofs.Parts.{getD-within, length-part, getD-part, part-octet}
 use Rattle.octets.proofs.Runs.{getD-put}
+use Rattle.rows.proofs.Rows.{near}
 use Rattle.account.specs.Terms.{Terms}
-use Rattle.tables.specs.Leading.{leading}
-use Rattle.tables.specs.Rows.{accountOctets, linkOctets, termsAt, linkAt, tableOf, linksInUse, otherNumber, foundIn}
+use Rattle.tables.specs.Rows.{accountOctets, linkOctets, termsAt, linkAt}
 use Rattle.tables.specs.declared.Link.{Link}
-use Rattle.tables.specs.declared.Found.the-variants.{At, Nowhere}
-use Rattle.tables.proofs.Leading.{leading-on, leading-stop}
 
 -- ---- the same octets at two places
 module _ (s t : List ℕ) (a b : ℕ) where
@@ -69,36 +65,6 @@ module _ (s : List ℕ) (at : ℕ) (d e : List ℕ) where
   pub link-laid : linkOctets ≤ length d → e ≡ put d 0 (octetsAt linkOctets s at) → linkAt e 0 ≡ linkAt s at
   link-laid h q = link-same e s 0 at (laid linkOctets h q)
 
--- ---- the search: row i, of `rows` in use, is inside the run
-pub row-inside : (links : List ℕ) (count rows i : ℕ) → rows ≡ linksInUse links count → i < rows → linkOctets * i + linkOctets ≤ length links
-row-inside links count rows i e h =
-    let m = min-le-right count (length links / linkOctets) in
-    let d : linkOctets * (length links / linkOctets) ≤ length links = rw (mul-comm linkOctets (length links / linkOctets)) (div-mul-le-self (length links) linkOctets) in
-    omega arith
-
--- rows of any width, the first of which `used` are in use
-module _ (w : ℕ) (octets : List ℕ) (x used rows : ℕ) (e : rows ≡ used) (i : ℕ) (s : leading (otherNumber (tableOf w octets) x) i ≡ i) where
-  module _ (h : i < rows) (r : ℕ) (v : r ≡ numberAt 2 octets (w * i)) where
-    number-is : linkAt octets (0 + w * i) .number ≡ r
-    unfolding linkAt
-    number-is = ap (numberAt 2 octets) (zero-add (w * i)) ∙ sym v
-
-    pub search-on : (r ≡ x → ⊥) → leading (otherNumber (tableOf w octets) x) (suc i) ≡ suc i
-    search-on d = leading-on (otherNumber (tableOf w octets) x) i s (ap not (ne-eqb _ _ (λ q. d (sym number-is ∙ q))))
-
-    pub search-hit : r ≡ x → At i ≡ foundIn (tableOf w octets) used x
-    unfolding foundIn
-    search-hit q =
-        let f : leading (otherNumber (tableOf w octets) x) rows ≡ i = leading-stop (otherNumber (tableOf w octets) x) i rows s (ap not (eq-eqb _ _ (number-is ∙ q))) h in
-        rw (← e, f) (simp (lt-ltb _ _ h))
-
-  pub search-miss : rows ≤ i → i ≤ rows → Nowhere ≡ foundIn (tableOf w octets) used x
-  unfolding foundIn
-  search-miss h k =
-      let m : i ≡ rows = omega arith in
-      let f : leading (otherNumber (tableOf w octets) x) rows ≡ rows = rw m at s in
-      rw (← e, f) (simp (le-ltb rows rows (omega arith)))
-
 -- ---- the same rows of octets have the same values
 pub terms-part : (s t : List ℕ) (a b : ℕ) → octetsAt accountOctets s a ≡ octetsAt accountOctets t b → termsAt s a ≡ termsAt t b
 terms-part s t a b e = terms-same s t a b (part-octet accountOctets s t a b e)
@@ -106,27 +72,10 @@ terms-part s t a b e = terms-same s t a b (part-octet accountOctets s t a b e)
 pub link-part : (s t : List ℕ) (a b : ℕ) → octetsAt linkOctets s a ≡ octetsAt linkOctets t b → linkAt s a ≡ linkAt t b
 link-part s t a b e = link-same s t a b (part-octet linkOctets s t a b e)
 
--- ---- row i, read from a first place that is cut to the run's length
+-- ---- row i, read from a first offset that is cut to the run's length
 module _ (s : List ℕ) (first x at : ℕ) (e : at ≡ min first (length s) + x) where
-  near : (k : ℕ) → getD s (at + k) 0 ≡ getD s (first + x + k) 0
-  near k =
-      ap (λ (i : ℕ). getD s i 0) (ap (λ (i : ℕ). i + k) e ∙ add-assoc (min first (length s)) x k)
-      ∙ getD-clamped s first (x + k)
-      ∙ ap (λ (i : ℕ). getD s i 0) (sym (add-assoc first x k))
-
   pub terms-near : termsAt s at ≡ termsAt s (first + x)
-  terms-near = terms-same s s at (first + x) (λ k l. near k)
+  terms-near = terms-same s s at (first + x) (λ k l. near s first x at e k)
 
   pub link-near : linkAt s at ≡ linkAt s (first + x)
-  link-near = link-same s s at (first + x) (λ k l. near k)
-
-  pub number-near : (w : ℕ) → numberAt w s at ≡ numberAt w s (first + x)
-  number-near w = number-shift w s s at (first + x) (λ k l. near k)
-
--- a distance in one octet times an index in two
-pub small-step : (x y : ℕ) → x < 2 ^ 8 → y < 2 ^ 16 → x * y < 2 ^ 24
-small-step x y h k =
-    let hx : x ≤ 255 = omega arith in
-    let hy : y ≤ 65535 = omega arith in
-    let p : x * y ≤ 255 * 65535 = mul-le-mul hx hy in
-    omega arith
+  link-near = link-same s s at (first + x) (λ k l. near s first x at e k)

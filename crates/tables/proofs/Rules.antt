@@ -9,10 +9,12 @@ use Rattle.frame.specs.Limits.{smallestFrame}
 use lib.ListN.{length}
 use Rattle.octets.specs.Numbers.{numberAt}
 use Rattle.account.specs.Terms.{Terms, inLimits}
-use Rattle.tables.specs.Rows.{Rows, termsAt, linkAt, accountIn, linkIn}
+use Rattle.rows.specs.Rows.{Rows}
+use Rattle.rows.proofs.Rows.{number-near}
+use Rattle.tables.specs.Rows.{termsAt, linkAt, accountIn, linkIn}
 use Rattle.tables.specs.Rules.{portCount, portsSound, sizesSound, linkSound, accountGood, numberRises, linkGood}
 use Rattle.tables.specs.declared.Link.{Link}
-use Rattle.tables.proofs.Rows.{terms-near, link-near, number-near}
+use Rattle.tables.proofs.Rows.{terms-near, link-near}
 
 -- ---- ports
 module _ (port mask : ℕ) where

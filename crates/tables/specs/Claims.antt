@@ -3,9 +3,10 @@ use Prim.Native.Nat.{ℕ, _≤_, _<_}
 use mathlib.Core.Bool.{true, false}
 use mathlib.Core.List.{List, [], _∷_, map}
 use mathlib.Core.Path.{_≡_}
-use Rattle.tables.specs.Rows.{Rows, accountIn, linkTable, linkIn, linksInUse, found}
+use Rattle.rows.specs.Rows.{Rows}
+use Rattle.rows.specs.declared.Found.the-variants.{At, Nowhere}
+use Rattle.tables.specs.Rows.{accountIn, linkTable, linkIn, linksInUse, found}
 use Rattle.tables.specs.Rules.{linkSound, linkRowSound}
-use Rattle.tables.specs.declared.Found.the-variants.{At, Nowhere}
 use Rattle.tables.specs.declared.Link.{Link}
 
 -- a row that is found is in use, has the number, and is the first that has it

@@ -1,4 +1,3 @@
 pub mod Claims
-pub mod Leading
 pub mod Rows
 pub mod Rules

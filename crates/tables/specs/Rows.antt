@@ -1,21 +1,16 @@
 -- Rows of accounts and links in octets, in the order of the image's data (document 01, "The configuration image", the table), and
 -- the tables that the writer and a frame call are lent.
-use Prim.Native.Nat.{ℕ, _+_, _*_, _/_, min}
-use mathlib.Core.Bool.{Bool, not}
+use Prim.Native.Nat.{ℕ, _+_}
 use mathlib.Core.List.{List}
 use lib.ListN.{length, getD}
-use lib.Dec.{ltb, eqb}
-use Rattle.octets.specs.Choice.{if_then_else_}
 use Rattle.octets.specs.Numbers.{numberAt}
-use Rattle.octets.specs.Runs.{octetsAt}
+use Rattle.rows.specs.Rows.{Rows, tableOf, rowPlace, inUse, foundIn}
+use Rattle.rows.specs.declared.Found.{Found}
+use Rattle.rows.specs.declared.Found.the-variants.{At, Nowhere}
 use Rattle.account.specs.Terms.{Terms}
-use Rattle.tables.specs.Leading.{leading}
-use Rattle.tables.specs.declared.Found.{Found}
-use Rattle.tables.specs.declared.Found.the-variants.{At, Nowhere}
 use Rattle.tables.specs.declared.Link.{Link}
 use Rattle.tables.specs.declared.Sought.{Sought}
 use Rattle.tables.specs.declared.Sought.the-variants.{Present, Absent}
-use Rattle.tables.specs.declared.Spacing.{Spacing}
 
 -- the account whose octets start at a place: Smax (2), k (1), J (2), mode (1)
 abbrev pub accountOctets : ℕ
@@ -39,35 +34,14 @@ linkAt s at =
       account = numberAt 2 s (at + 11);
     }
 
--- rows at equal distances in a run of octets: in a table they touch, in an image a field's tag and length stand between them
-pub record Rows : Type 0 where
-  pub octets : List ℕ
-  pub first : ℕ
-  pub step : ℕ
-
-abbrev pub spacing : ℕ → ℕ → Spacing
-spacing first step = record { first = first; step = step }
-
-abbrev pub rowsBy : List ℕ → Spacing → Rows
-rowsBy s p = record { octets = s; first = p .first; step = p .step }
-
-abbrev pub rowPlace : Rows → ℕ → ℕ
-rowPlace r i = r .first + r .step * i
-
+-- account i and link j of rows at equal distances: in a table they touch, in an image a field's tag and length stand between them
 abbrev pub accountIn : Rows → ℕ → Terms
 accountIn r i = termsAt (r .octets) (rowPlace r i)
 
 abbrev pub linkIn : Rows → ℕ → Link
 linkIn r j = linkAt (r .octets) (rowPlace r j)
 
--- the w octets of row i
-abbrev pub rowOctets : ℕ → Rows → ℕ → List ℕ
-rowOctets w r i = octetsAt w (r .octets) (rowPlace r i)
-
--- rows of w octets that touch; a table of accounts and one of links
-abbrev pub tableOf : ℕ → List ℕ → Rows
-tableOf w s = record { octets = s; first = 0; step = w }
-
+-- a table of accounts and one of links
 abbrev pub accountTable : List ℕ → Rows
 accountTable s = tableOf accountOctets s
 
@@ -76,18 +50,9 @@ linkTable s = tableOf linkOctets s
 
 -- link rows in use ("Accounts and links"): a count larger than the rows lent is read as those; a row in part is none
 abbrev pub linksInUse : List ℕ → ℕ → ℕ
-linksInUse links count = min count (length links / linkOctets)
+linksInUse links count = inUse linkOctets (length links) count
 
--- the first of n link rows that has a number ("Codes, in order of checking": the first row counts); and of the rows in use
-abbrev pub otherNumber : Rows → ℕ → ℕ → Bool
-otherNumber l x j = not (eqb (linkIn l j .number) x)
-
-abbrev pub rowOf : Rows → ℕ → ℕ → ℕ
-rowOf l n x = leading (otherNumber l x) n
-
-unfoldable pub foundIn : Rows → ℕ → ℕ → Found
-foundIn l n x = if ltb (rowOf l n x) n then At (rowOf l n x) else Nowhere
-
+-- the first of the rows in use that has a number ("Codes, in order of checking": the first row counts)
 abbrev pub found : List ℕ → ℕ → ℕ → Found
 found links count x = foundIn (linkTable links) (linksInUse links count) x
 

@@ -6,7 +6,8 @@ use lib.Dec.{ltb, leb, eqb}
 use Rattle.octets.specs.Choice.{if_then_else_}
 use Rattle.frame.specs.Limits.{smallestFrame}
 use Rattle.account.specs.Terms.{inLimits}
-use Rattle.tables.specs.Rows.{Rows, accountIn, linkIn}
+use Rattle.rows.specs.Rows.{Rows}
+use Rattle.tables.specs.Rows.{accountIn, linkIn}
 use Rattle.tables.specs.declared.Link.{Link}
 
 -- ports of a switch

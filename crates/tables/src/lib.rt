@@ -1,13 +1,16 @@
 // The tables that a switch is lent: rows of 6 octets an account and 13 a link, in the order of the image's data.
 // Decoding a row, the value rules of rows, and the search for a link's number.
 ghost use mathlib.Core.Path.{_≡_};
-ghost use Prim.Native.Nat.{_+_, _*_, _≤_, _<_, min};
+ghost use Prim.Native.Nat.{_+_, _≤_, _<_};
 ghost use lib.ListN.{length, getD};
 ghost use Rattle.octets.specs.Numbers.{numberAt};
 ghost use Rattle.account.specs.Account.{accountOf};
-ghost use Rattle.tables.specs.Rows.{accountOctets, termsAt, linkOctets, linkAt, rowsBy, accountIn, found, soughtIn};
+ghost use Rattle.rows.specs.Rows.{rowsBy};
+ghost use Rattle.tables.specs.Rows.{accountOctets, termsAt, linkOctets, linkAt, accountIn, found, soughtIn};
 ghost use Rattle.tables.specs.Rules.{portsSound, sizesSound, linkSound, accountGood, numberRises, linkGood};
 use account::Account;
+use rows::Found;
+use rows::Spacing;
 
 // Octets of a row.
 pub const ACCOUNT_OCTETS: usize = 6;
@@ -25,18 +28,6 @@ pub struct Link {
     pub smallest: u16,
     pub largest: u16,
     pub account: u16,
-}
-
-// Where the rows of a run stand: the place of the first, and how far apart they are.
-pub struct Spacing {
-    pub first: usize,
-    pub step: u8,
-}
-
-// Where a link's number was found.
-pub enum Found {
-    At(usize),
-    Nowhere,
 }
 
 // The link of a number, if there is one.
@@ -121,13 +112,6 @@ pub fn link_at(rows: &[u8], at: usize) -> Link
     link_in(&row, 0)
 }
 
-// The place of row i; a first place past the end is cut to the end, where all octets are 0 too.
-fn row_place(run: &[u8], rows: Spacing, i: u16) -> usize
-    ensures { λ r. ⌜ r ≡ min (rows .first) (length (now (run .entry))) + rows .step * i ⌝ }
-{
-    octets::least(rows.first, run.len()) + rows.step as usize * i as usize
-}
-
 // Whether a port is an input port and a mask names some output port, but not the input port.
 fn ports_sound(port: u8, mask: u32) -> bool
     ensures { λ r. ⌜ r ≡ portsSound port mask ⌝ }
@@ -173,7 +157,7 @@ impl Link {
 pub fn account_good(run: &[u8], rows: Spacing, i: u16) -> bool
     ensures { λ r. ⌜ r ≡ accountGood (rowsBy (now (run .entry)) rows) i ⌝ }
 {
-    let a = account_at(run, row_place(run, rows, i), 0, 0);
+    let a = account_at(run, rows::row_place(run, rows, i), 0, 0);
     a.in_limits()
 }
 
@@ -181,7 +165,7 @@ pub fn account_good(run: &[u8], rows: Spacing, i: u16) -> bool
 fn smax_of(run: &[u8], rows: Spacing, i: u16) -> u16
     ensures { λ r. ⌜ r ≡ accountIn (rowsBy (now (run .entry)) rows) i .smax ⌝ }
 {
-    octets::u16_at(run, row_place(run, rows, i))
+    octets::u16_at(run, rows::row_place(run, rows, i))
 }
 
 // Whether the number in row j of the links is above the one before it.
@@ -191,8 +175,8 @@ fn number_rises(run: &[u8], rows: Spacing, j: u16) -> bool
     if j == 0 {
         return true;
     }
-    let before = octets::u16_at(run, row_place(run, rows, j - 1));
-    before < octets::u16_at(run, row_place(run, rows, j))
+    let before = octets::u16_at(run, rows::row_place(run, rows, j - 1));
+    before < octets::u16_at(run, rows::row_place(run, rows, j))
 }
 
 // Whether the values of row j of the links keep their rules among n accounts. Smax is that of the link's own account.
@@ -209,33 +193,21 @@ pub fn link_good(
     if !number_rises(links, link_rows, j) {
         return false;
     }
-    let l = link_at(links, row_place(links, link_rows, j));
+    let l = link_at(links, rows::row_place(links, link_rows, j));
     let smax = smax_of(accounts, account_rows, l.account);
     l.sound(n as usize, smax)
 }
 
-// The first of the rows in use that has the number, two rows a turn. A count larger than the rows lent is read as those.
+// The first of the rows in use that has the number. A count larger than the rows lent is read as those.
 pub fn find(links: &[u8], count: usize, number: u16) -> Found
     ensures { λ r. ⌜ r ≡ found (now (links .entry)) count number ⌝ }
 {
-    let rows = octets::least(count, links.len() / LINK_OCTETS);
-    let mut i = 0;
-    while 1 < rows - i {
-        if u16_in(links, LINK_OCTETS * i) == number {
-            return Found::At(i);
-        }
-        let next = i + 1;
-        if u16_in(links, LINK_OCTETS * next) == number {
-            return Found::At(next);
-        }
-        i += 2;
-    }
-    if i < rows {
-        if u16_in(links, LINK_OCTETS * i) == number {
-            return Found::At(i);
-        }
-    }
-    Found::Nowhere
+    rows::find(
+        links,
+        (LINK_OCTETS - rows::NUMBER_OCTETS) as u8,
+        count,
+        number,
+    )
 }
 
 // The link in the first of the rows in use that has the number. A row that is found is there whole.

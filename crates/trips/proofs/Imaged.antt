@@ -11,64 +11,15 @@ use Rattle.octets.specs.Runs.{octetsAt, joined}
 use Rattle.octets.proofs.Numbers.{number-shift, number-octets, length-octets}
 use Rattle.octets.proofs.Parts.{length-part, getD-part, part-is, part-front, part-behind, part-join, part-whole, part-joined, joined-at, joined-same, octets-number}
 use Rattle.tables.specs.Rows.{Config, accountOctets, linkOctets}
-use Rattle.layout.specs.Layout.{headTag, accountTag, linkTag, endTag, edition, fieldOf, imageOf, tagAndLength, headSize, accountSize, linkSize, fieldPlace, imageLength}
-use Rattle.image_octets.proofs.Laying.{length-field, length-fields, head-size, rowField, length-row-field}
+use Rattle.fields.specs.Fields.{fieldOf, tagAndLength}
+use Rattle.layout.specs.Layout.{headTag, accountTag, linkTag, endTag, edition, imageOf, headSize, accountSize, linkSize, fieldPlace, imageLength}
+use Rattle.fields.proofs.Fields.{length-field, tag-read, length-read, data-read, field-spelled}
+use Rattle.image_octets.proofs.Laying.{length-fields, head-size, rowField, length-row-field}
 
 -- ---- where links stand
 place-link : (n j : ℕ) → fieldPlace n j ≡ fieldPlace n 0 + linkSize * j
 unfolding fieldPlace
 place-link n j = omega arith
-
--- ---- the octets of one field
-module _ (tag : ℕ) (bytes : List ℕ) where
-  field-tag : getD (fieldOf tag bytes) 0 0 ≡ tag
-  unfolding fieldOf
-  field-tag = refl
-
-  field-length : (k : ℕ) → k < 2 → getD (fieldOf tag bytes) (1 + k) 0 ≡ getD (octetsOf 2 (length bytes)) (0 + k) 0
-  unfolding fieldOf
-  field-length k l =
-      let o = length-octets 2 (length bytes) in
-      let a : 1 + k ≡ suc k = omega arith in
-      rw (a, zero-add k) (List·getD-append (octetsOf 2 (length bytes)) bytes 0 k (omega arith))
-
-  field-data : (k : ℕ) → getD (fieldOf tag bytes) (tagAndLength + k) 0 ≡ getD bytes k 0
-  unfolding fieldOf
-  field-data k =
-      let o = length-octets 2 (length bytes) in
-      let a : length (tag ∷ octetsOf 2 (length bytes)) + k ≡ tagAndLength + k = omega arith in
-      ap (λ (i : ℕ). getD ((tag ∷ octetsOf 2 (length bytes)) ++ bytes) i 0) (sym a) ∙ getD-append-add (tag ∷ octetsOf 2 (length bytes)) bytes k 0
-
--- a field that stands at a place: its tag, its length and its data are read there
-module _ (s : List ℕ) (at w tag : ℕ) (bytes : List ℕ) (l : length bytes ≡ w) (e : octetsAt (tagAndLength + w) s at ≡ fieldOf tag bytes) where
-  octet : (k : ℕ) → k < tagAndLength + w → getD s (at + k) 0 ≡ getD (fieldOf tag bytes) k 0
-  octet k h = sym (getD-part (tagAndLength + w) s at k h) ∙ ap (λ (xs : List ℕ). getD xs k 0) e
-
-  pub tag-read : getD s at 0 ≡ tag
-  tag-read = ap (λ (i : ℕ). getD s i 0) (sym (add-zero at)) ∙ octet 0 (omega arith) ∙ field-tag tag bytes
-
-  pub length-read : w < 2 ^ 16 → numberAt 2 s (at + 1) ≡ w
-  length-read h =
-      number-shift 2 s (octetsOf 2 (length bytes)) (at + 1) 0
-      (λ k b. ap (λ (i : ℕ). getD s i 0) (add-assoc at 1 k) ∙ octet (1 + k) (omega arith) ∙ field-length tag bytes k b)
-      ∙ number-octets 2 (length bytes) (omega arith)
-      ∙ l
-
-  pub data-read : octetsAt w s (at + tagAndLength) ≡ bytes
-  data-read =
-      part-is w s (at + tagAndLength) bytes l
-      (λ k b. ap (λ (i : ℕ). getD s i 0) (add-assoc at tagAndLength k) ∙ octet (tagAndLength + k) (omega arith) ∙ field-data tag bytes k)
-
--- and back: a tag and a length before w octets make a field of them
-pub field-spelled : (s : List ℕ) (at w tag : ℕ) → ((i : ℕ) → getD s i 0 < 256) → getD s at 0 ≡ tag → numberAt 2 s (at + 1) ≡ w
-    → octetsAt (tagAndLength + w) s at ≡ fieldOf tag (octetsAt w s (at + tagAndLength))
-unfolding fieldOf
-field-spelled s at w tag o t n =
-    let two : octetsAt 2 s (at + 1) ≡ octetsOf 2 (length (octetsAt w s (at + tagAndLength))) =
-    sym (octets-number 2 s (at + 1) o) ∙ ap (octetsOf 2) (n ∙ sym (length-part w s (at + tagAndLength))) in
-    let one : octetsAt 1 s at ≡ tag ∷ [] = part-is 1 s at (tag ∷ []) refl (λ k l. let z : k ≡ 0 = omega arith in rw (z, add-zero at) t) in
-    part-join tagAndLength w s at
-    ∙ ap (λ (xs : List ℕ). xs ++ octetsAt w s (at + tagAndLength)) (part-join 1 2 s at ∙ ap₂ _++_ one two)
 
 -- ---- the fields of an image
 module _ (g : Config) where

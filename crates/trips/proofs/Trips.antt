@@ -13,12 +13,14 @@ use Rattle.octets.specs.Runs.{octetsAt, put}
 use Rattle.octets.proofs.Numbers.{number-shift, number-octets}
 use Rattle.octets.proofs.Parts.{length-part, getD-part, part-is, part-none, part-join, part-joined, part-take, joined-same, octets-number}
 use Rattle.account.specs.Terms.{Terms, capacity}
-use Rattle.tables.specs.Rows.{Config, accountOctets, linkOctets, accountTable, linkTable, accountIn, linkIn, rowOctets, configOf}
+use Rattle.rows.specs.Rows.{rowOctets}
+use Rattle.tables.specs.Rows.{Config, accountOctets, linkOctets, accountTable, linkTable, accountIn, linkIn, configOf}
 use Rattle.tables.specs.Rules.{accountGood, linkGood}
-use Rattle.tables.proofs.Leading.{leading-before, leading-is}
+use Rattle.octets.proofs.Leading.{leading-before, leading-is}
 use Rattle.tables.proofs.Rows.{terms-part, link-part}
 use Rattle.tables.proofs.Rules.{account-good-same, link-good-same}
-use Rattle.layout.specs.Layout.{headTag, accountTag, linkTag, endTag, edition, tagAndLength, headOctets, headSize, accountSize, linkSize, fieldPlace, dataPlace, imageLength, maxAccounts, maxLinks, constantGood, fieldOf, imageOf}
+use Rattle.fields.specs.Fields.{tagAndLength, fieldOf}
+use Rattle.layout.specs.Layout.{headTag, accountTag, linkTag, endTag, edition, headOctets, headSize, accountSize, linkSize, fieldPlace, dataPlace, imageLength, maxAccounts, maxLinks, constantGood, imageOf}
 use Rattle.image.specs.Read.{headCode, accountFields, linkFields, tagAt, nextCode, goodField, readImage}
 use Rattle.loader.specs.Loading.{Runs, runsOf, loadingOf, accountRows, linkRows, capacities, filled, runsHold, loading}
 use Rattle.loader.specs.Fresh.{Fresh, HoldsImage}
@@ -33,7 +35,8 @@ use Rattle.image_writer.specs.Writing.{countsGood, countGood, badAccount, badLi
 use Rattle.trips.specs.Trips.{tablesIn, AcceptedIsImage, ImageIsAccepted, writtenImage, readBack, WriteRead, loadedTables, ReadWrite}
 use Rattle.image_writer.specs.declared.Written.{Written}
 use Rattle.image_writer.proofs.Answers.{writing-answer, accounts-counted, links-counted, by-values, by-writing, all-good, room-enough, writing-done}
-use Rattle.trips.proofs.Imaged.{tag-read, length-read, data-read, field-spelled, image-head, image-account, image-link, image-end, image-spelled}
+use Rattle.fields.proofs.Fields.{tag-read, length-read, data-read, field-spelled}
+use Rattle.trips.proofs.Imaged.{image-head, image-account, image-link, image-end, image-spelled}
 use Rattle.image_octets.proofs.Laying.{rowField, length-head, length-image}
 
 -- ---- small things that both trips use

@@ -5,7 +5,7 @@ use lib.ListN.{length}
 use Rattle.octets.proofs.Parts.{length-part}
 use Rattle.octets.proofs.Runs.{put-refused, length-laid}
 use Rattle.octets.proofs.Tests.{has-room}
-use Rattle.layout.specs.Layout.{tagAndLength}
+use Rattle.fields.specs.Fields.{tagAndLength}
 use Rattle.image_octets.proofs.Laying.{length-sized, field-laid}
 use borrow.Author.Needs.{needs}
 use Rattle.image_octets.proofs.put_field.Statement.{statement}

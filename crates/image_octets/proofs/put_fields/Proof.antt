@@ -8,7 +8,7 @@ use lib.ListN.{length}
 use Rattle.octets.specs.Runs.{joined, put}
 use Rattle.octets.proofs.Runs.{put-refused, lay-none, length-laid}
 use Rattle.octets.proofs.Tests.{has-room}
-use Rattle.layout.specs.Layout.{tagAndLength}
+use Rattle.fields.specs.Fields.{tagAndLength}
 use Rattle.layout.proofs.Places.{small-product}
 use Rattle.image_octets.proofs.Laying.{rowField, length-row-field, length-fields, fields-grow, field-inside}
 use borrow.Author.Needs.{needs}

@@ -1,7 +1,7 @@
 -- `account_fields`: as it stands. Assumes nothing.
 use Prim.Native.Nat.{ℕ}
 use mathlib.Core.Path.{ap}
-use Rattle.tables.specs.Rows.{spacing}
+use Rattle.rows.specs.Rows.{spacing}
 use Rattle.layout.specs.Layout.{accountSize}
 use borrow.Author.Needs.{needs}
 use Rattle.layout.proofs.account_fields.Statement.{statement}

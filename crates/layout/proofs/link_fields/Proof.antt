@@ -1,7 +1,7 @@
 -- `link_fields`: as it stands. Assumes nothing.
 use Prim.Native.Nat.{ℕ}
 use mathlib.Core.Path.{ap}
-use Rattle.tables.specs.Rows.{spacing}
+use Rattle.rows.specs.Rows.{spacing}
 use Rattle.layout.specs.Layout.{linkSize}
 use borrow.Author.Needs.{needs}
 use Rattle.layout.proofs.link_fields.Statement.{statement}

@@ -3,17 +3,13 @@ use Prim.Native.Nat.{_+_, _*_, _≤_}
 use native.Mathlib.Omega.{arith}
 use lib.ListN.{length}
 use Rattle.receive.specs.Lent.{skewRowOctets}
-use Rattle.receive.proofs.Words.{rows-inside}
 use Rattle.receive.proofs.Judging.{row-lent, record-lent, call-unknown, call-answered}
 use borrow.Author.Needs.{needs}
 use Rattle.receive.proofs.receive.Statement.{statement}
 use Rattle.receive.proofs.receive.Tie as tie
 
-rows-in-use-requires : tie.Need-rows-in-use-requires
-rows-in-use-requires c κs = search needs
-
 find-requires : tie.Need-find-requires
-find-requires c κs = search rows-inside
+find-requires c κs = search needs
 
 enum-told : tie.Need-enum-told
 enum-told c = search needs
@@ -21,7 +17,7 @@ enum-told c = search needs
 enum-known-row : tie.Need-enum-known-row
 enum-known-row c = search needs
 
-lent : (c : tie.After-known-told) → skewRowOctets * (c .before .row .given .0 .0) + skewRowOctets ≤ length (c .before .before .before .before .before .before .before .args .rows .now)
+lent : (c : tie.After-known-told) → skewRowOctets * (c .before .row .given .0 .0) + skewRowOctets ≤ length (c .before .before .before .before .before .before .args .rows .now)
 lent c = search row-lent
 
 mul-u32-at : tie.Need-mul-u32-at
@@ -52,7 +48,6 @@ pub receive-spec : {M : Type 1} → statement M
 receive-spec =
     tie.close
     (tie.spec
-    rows-in-use-requires
     find-requires
     enum-told
     enum-known-row

@@ -1,7 +1,7 @@
 -- `account_good`: the account read at its row. Assumes nothing.
 use mathlib.Core.Path.{ap}
 use Rattle.account.specs.Account.{termsOf}
-use Rattle.tables.specs.Rows.{rowsBy}
+use Rattle.rows.specs.Rows.{rowsBy}
 use Rattle.tables.proofs.Rules.{account-row}
 use borrow.Author.Needs.{needs}
 use Rattle.tables.proofs.account_good.Statement.{statement}

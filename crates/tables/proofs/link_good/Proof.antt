@@ -1,5 +1,5 @@
 -- `link_good`: the number, then the other values. Assumes nothing.
-use Rattle.tables.specs.Rows.{rowsBy}
+use Rattle.rows.specs.Rows.{rowsBy}
 use Rattle.tables.proofs.Rules.{link-falls, link-row}
 use borrow.Author.Needs.{needs}
 use Rattle.tables.proofs.link_good.Statement.{statement}

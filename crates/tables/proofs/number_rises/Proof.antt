@@ -1,5 +1,5 @@
 -- `number_rises`: the first link, or two numbers compared. Assumes nothing.
-use Rattle.tables.specs.Rows.{rowsBy}
+use Rattle.rows.specs.Rows.{rowsBy}
 use Rattle.tables.proofs.Rules.{rises-first, rises-later}
 use borrow.Author.Needs.{needs}
 use Rattle.tables.proofs.number_rises.Statement.{statement}

@@ -1,5 +1,5 @@
 -- `smax_of`: the first two octets of the account's row. Assumes nothing.
-use Rattle.tables.specs.Rows.{rowsBy}
+use Rattle.rows.specs.Rows.{rowsBy}
 use Rattle.tables.proofs.Rules.{smax-row}
 use borrow.Author.Needs.{needs}
 use Rattle.tables.proofs.smax_of.Statement.{statement}

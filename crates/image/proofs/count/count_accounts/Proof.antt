@@ -3,8 +3,8 @@ use Prim.Native.Nat.{_-_, _≤_}
 use mathlib.Core.Path.{_≡_}
 use native.Mathlib.Numerals.{add-one}
 use native.Mathlib.Omega.{arith}
-use Rattle.tables.specs.Leading.{leading}
-use Rattle.tables.proofs.Leading.{leading-zero, count-stops, count-goes-on, count-full}
+use Rattle.octets.specs.Leading.{leading}
+use Rattle.octets.proofs.Leading.{leading-zero, count-stops, count-goes-on, count-full}
 use Rattle.layout.specs.Layout.{accountTag, maxAccounts}
 use Rattle.image.specs.Read.{goodField, accountCount}
 use borrow.Author.Needs.{needs}
@@ -20,12 +20,12 @@ abbrev μ-loop : tie.MeasureT-loop
 loop-holds : tie.Need-loop-holds Inv-loop μ-loop
 loop-holds c = (omega arith, leading-zero (λ k. goodField (c .before .args .image .now) accountTag k 0))
 
-good-field-requires : tie.Need-good-field-requires Inv-loop μ-loop
-good-field-requires c κs = search needs
+good-account-requires : tie.Need-good-account-requires Inv-loop μ-loop
+good-account-requires c κs = c .loop-test .taken
 
 returns : tie.Need-returns Inv-loop μ-loop
 unfolding accountCount
-returns c = count-stops (λ k. goodField (c .before .before .before .before .before .args .image .now) accountTag k 0) _ (c .before .before .before .loop .inv .1) _ (c .before .good-field .ensures) maxAccounts (c .before .before .loop-test .taken) (c .if1 .taken)
+returns c = count-stops (λ k. goodField (c .before .before .before .before .before .args .image .now) accountTag k 0) _ (c .before .before .before .loop .inv .1) _ (c .before .good-account .ensures) maxAccounts (c .before .before .loop-test .taken) (c .if1 .taken)
 
 add-i : tie.Need-add-i Inv-loop μ-loop
 add-i c = omega arith
@@ -36,7 +36,7 @@ loop-less c = omega arith
 loop-again : tie.Need-loop-again Inv-loop μ-loop
 loop-again c = (
   omega arith,
-  rw (add-one (c .before .before .before .loop .i)) (count-goes-on (λ k. goodField (c .before .before .before .before .before .args .image .now) accountTag k 0) _ (c .before .before .before .loop .inv .1) _ (c .before .good-field .ensures) (c .if1 .left)),
+  rw (add-one (c .before .before .before .loop .i)) (count-goes-on (λ k. goodField (c .before .before .before .before .before .args .image .now) accountTag k 0) _ (c .before .before .before .loop .inv .1) _ (c .before .good-account .ensures) (c .if1 .left)),
 )
 
 returns-2 : tie.Need-returns-2 Inv-loop μ-loop
@@ -50,7 +50,7 @@ count-accounts-spec =
     Inv-loop
     μ-loop
     loop-holds
-    good-field-requires
+    good-account-requires
     returns
     add-i
     loop-less

@@ -1,13 +1,14 @@
--- `count_links`: field by field. The loop's invariant: all fields before this one are well. Assumes nothing.
-use Prim.Native.Nat.{_-_, _≤_}
+-- `count_links`: none without accounts, else field by field. The loop's invariant: all fields before this one are well. Assumes nothing.
+use Prim.Native.Nat.{ℕ, _-_, _≤_}
+use mathlib.Core.Bool.{Bool}
 use mathlib.Core.Path.{_≡_}
 use native.Mathlib.Numerals.{add-one}
 use native.Mathlib.Omega.{arith}
-use Rattle.tables.specs.Leading.{leading}
-use Rattle.tables.proofs.Leading.{leading-zero, count-stops, count-goes-on, count-full}
+use Rattle.octets.specs.Leading.{leading}
+use Rattle.octets.proofs.Leading.{leading-zero, count-stops, count-goes-on, count-full}
 use Rattle.layout.specs.Layout.{linkTag, maxLinks}
 use Rattle.image.specs.Read.{goodField, linkCount}
-use borrow.Author.Needs.{needs}
+use Rattle.image.proofs.Passing.{links-none}
 use Rattle.image.proofs.count.count_links.Statement.{statement}
 use Rattle.image.proofs.count.count_links.Tie as tie
 
@@ -17,15 +18,24 @@ Inv-loop image accounts j₀ j = (j ≤ maxLinks) × (leading (λ k. goodField i
 abbrev μ-loop : tie.MeasureT-loop
 μ-loop image accounts j₀ j = maxLinks - j
 
-loop-holds : tie.Need-loop-holds Inv-loop μ-loop
-loop-holds c = (omega arith, leading-zero (λ k. goodField (c .before .args .image .now) linkTag (c .before .args .accounts) k))
-
-good-field-requires : tie.Need-good-field-requires Inv-loop μ-loop
-good-field-requires c κs = search needs
+-- the test of each field
+abbrev tested : tie.At-loop Inv-loop μ-loop → ℕ → Bool
+tested c = goodField (c .before .before .before .args .image .now) linkTag (c .before .before .before .args .accounts)
 
 returns : tie.Need-returns Inv-loop μ-loop
+returns c = links-none (c .before .before .args .image .now) _ (c .if1 .taken)
+
+loop-holds : tie.Need-loop-holds Inv-loop μ-loop
+loop-holds c = (omega arith, leading-zero (λ k. goodField (c .before .before .args .image .now) linkTag (c .before .before .args .accounts) k))
+
+good-link-requires : tie.Need-good-link-requires Inv-loop μ-loop
+good-link-requires c κs = let z = c .before .before .if1 .left in (omega arith, c .loop-test .taken)
+
+returns-2 : tie.Need-returns-2 Inv-loop μ-loop
 unfolding linkCount
-returns c = count-stops (λ k. goodField (c .before .before .before .before .before .args .image .now) linkTag (c .before .before .before .before .before .args .accounts) k) _ (c .before .before .before .loop .inv .1) _ (c .before .good-field .ensures) maxLinks (c .before .before .loop-test .taken) (c .if1 .taken)
+returns-2 c =
+    count-stops (tested (c .before .before .before)) _ (c .before .before .before .loop .inv .1) _ (c .before .good-link .ensures)
+    maxLinks (c .before .before .loop-test .taken) (c .if2 .taken)
 
 add-j : tie.Need-add-j Inv-loop μ-loop
 add-j c = omega arith
@@ -36,12 +46,13 @@ loop-less c = omega arith
 loop-again : tie.Need-loop-again Inv-loop μ-loop
 loop-again c = (
   omega arith,
-  rw (add-one (c .before .before .before .loop .j)) (count-goes-on (λ k. goodField (c .before .before .before .before .before .args .image .now) linkTag (c .before .before .before .before .before .args .accounts) k) _ (c .before .before .before .loop .inv .1) _ (c .before .good-field .ensures) (c .if1 .left)),
+  rw (add-one (c .before .before .before .loop .j))
+      (count-goes-on (tested (c .before .before .before)) _ (c .before .before .before .loop .inv .1) _ (c .before .good-link .ensures) (c .if2 .left)),
 )
 
-returns-2 : tie.Need-returns-2 Inv-loop μ-loop
+returns-3 : tie.Need-returns-3 Inv-loop μ-loop
 unfolding linkCount
-returns-2 c = count-full (λ k. goodField (c .before .before .before .args .image .now) linkTag (c .before .before .before .args .accounts) k) _ maxLinks (c .before .loop .inv .1) (c .loop-test .left) (c .before .loop .inv .0)
+returns-3 c = count-full (tested (c .before)) _ maxLinks (c .before .loop .inv .1) (c .loop-test .left) (c .before .loop .inv .0)
 
 pub count-links-spec : {M : Type 1} → statement M
 count-links-spec =
@@ -49,10 +60,11 @@ count-links-spec =
     (tie.spec
     Inv-loop
     μ-loop
-    loop-holds
-    good-field-requires
     returns
+    loop-holds
+    good-link-requires
+    returns-2
     add-j
     loop-less
     loop-again
-    returns-2)
+    returns-3)

@@ -3,11 +3,12 @@ use Prim.Native.Nat.{_-_, _≤_}
 use mathlib.Core.Path.{_≡_, ap, _∙_}
 use native.Mathlib.Numerals.{add-one}
 use native.Mathlib.Omega.{arith}
-use Rattle.tables.specs.Leading.{leading}
-use Rattle.tables.specs.Rows.{rowsBy, accountTable}
+use Rattle.octets.specs.Leading.{leading}
+use Rattle.rows.specs.Rows.{rowsBy}
+use Rattle.tables.specs.Rows.{accountTable}
 use Rattle.tables.specs.Rules.{accountGood}
-use Rattle.tables.specs.declared.Spacing.{Spacing}
-use Rattle.tables.proofs.Leading.{leading-zero, count-stops, count-goes-on, count-full}
+use Rattle.rows.specs.declared.Spacing.{Spacing}
+use Rattle.octets.proofs.Leading.{leading-zero, count-stops, count-goes-on, count-full}
 use borrow.Author.Needs.{needs}
 use Rattle.image_writer.proofs.values.bad_account.Statement.{statement}
 use Rattle.image_writer.proofs.values.bad_account.Tie as tie

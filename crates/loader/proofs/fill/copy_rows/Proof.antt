@@ -9,7 +9,7 @@ use Rattle.octets.specs.Runs.{joined, put}
 use Rattle.octets.proofs.Parts.{length-part, length-joined}
 use Rattle.octets.proofs.Runs.{put-refused, length-laid, lay-none}
 use Rattle.octets.proofs.Tests.{has-room-first}
-use Rattle.tables.specs.Rows.{rowOctets}
+use Rattle.rows.specs.Rows.{rowOctets}
 use Rattle.image.specs.Read.{fieldRows}
 use Rattle.layout.proofs.Places.{small-product}
 use Rattle.loader.proofs.Filling.{row-laid}

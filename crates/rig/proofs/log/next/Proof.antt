@@ -1,5 +1,6 @@
 -- `next`: each return is a case of the definition. Assumes nothing.
-use Rattle.octets.proofs.Tests.{has-room}
+use mathlib.Core.Path.{ap}
+use Rattle.fields.specs.declared.Field.{Field}
 use Rattle.rig.proofs.Records.{next-end, next-more, next-tag, next-open, next-stamped}
 use borrow.Author.Needs.{needs}
 use Rattle.rig.proofs.log.next.Statement.{statement}
@@ -11,26 +12,23 @@ returns c = next-end _ _ _ (c .before .if1 .taken) (c .if2 .taken)
 returns-2 : tie.Need-returns-2
 returns-2 c = next-more _ _ _ (c .before .if1 .taken) (c .if2 .left)
 
-octet-at-requires : tie.Need-octet-at-requires
-octet-at-requires c κs = search needs
+read-requires : tie.Need-read-requires
+read-requires c κs = search needs
 
 returns-3 : tie.Need-returns-3
-returns-3 c = next-tag _ _ _ (c .before .before .if1 .left) _ (c .before .octet-at .ensures) (c .if3 .taken)
-
-has-room-requires : tie.Need-has-room-requires
-has-room-requires c κs = search needs
+returns-3 c = next-tag _ _ _ (c .before .before .before .if1 .left) _ (ap (λ (x : Field). x .tag) (c .before .before .read .ensures)) (c .if3 .taken)
 
 unsettled-requires : tie.Need-unsettled-requires
 unsettled-requires c κs = search needs
 
 returns-4 : tie.Need-returns-4
-returns-4 c = next-open _ _ _ (c .before .before .before .before .before .if1 .left) _ (c .before .before .before .before .octet-at .ensures) (c .before .before .before .if3 .left) _ (c .before .before .has-room .ensures) _ (c .before .if4 .taken) (c .unsettled .ensures)
+returns-4 c = next-open _ _ _ (c .before .before .before .before .before .before .if1 .left) _ (ap (λ (x : Field). x .tag) (c .before .before .before .before .before .read .ensures)) (c .before .before .before .if3 .left) _ (ap (λ (x : Field). x .headed) (c .before .before .before .before .before .read .ensures)) _ (c .before .if4 .taken) (c .unsettled .ensures)
 
 record-at-requires : tie.Need-record-at-requires
-record-at-requires c κs = has-room _ _ _ _ (c .before .has-room .ensures) (c .if4 .left)
+record-at-requires c κs = search needs
 
 returns-5 : tie.Need-returns-5
-returns-5 c = next-stamped _ _ _ (c .before .before .before .before .before .if1 .left) _ (c .before .before .before .before .octet-at .ensures) (c .before .before .before .if3 .left) _ (c .before .before .has-room .ensures) _ (c .before .if4 .left) (c .record-at .ensures)
+returns-5 c = next-stamped _ _ _ (c .before .before .before .before .before .before .if1 .left) _ (ap (λ (x : Field). x .tag) (c .before .before .before .before .before .read .ensures)) (c .before .before .before .if3 .left) _ (ap (λ (x : Field). x .headed) (c .before .before .before .before .before .read .ensures)) _ (c .before .if4 .left) (c .record-at .ensures)
 
 pub next-spec : {M : Type 1} → statement M
 next-spec =
@@ -38,9 +36,8 @@ next-spec =
     (tie.spec
     returns
     returns-2
-    octet-at-requires
+    read-requires
     returns-3
-    has-room-requires
     unsettled-requires
     returns-4
     record-at-requires

@@ -1,0 +1,16 @@
+-- `data_octets`: tag by tag. Assumes nothing.
+use Rattle.image.proofs.Checks.{octets-account, octets-link, octets-end}
+use Rattle.image.proofs.field.data_octets.Statement.{statement}
+use Rattle.image.proofs.field.data_octets.Tie as tie
+
+returns : tie.Need-returns
+returns c = octets-account _ (c .if1 .taken)
+
+returns-2 : tie.Need-returns-2
+returns-2 c = octets-link _ (c .before .if1 .left) (c .if2 .taken)
+
+returns-3 : tie.Need-returns-3
+returns-3 c = octets-end _ (c .before .if1 .left) (c .if2 .left)
+
+pub data-octets-spec : {M : Type 1} → statement M
+data-octets-spec = tie.close (tie.spec returns returns-2 returns-3)
