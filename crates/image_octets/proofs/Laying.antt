@@ -1,8 +1,7 @@
 -- Laws of laying an image's octets: a field, fields one after the other, the whole image. Assumes nothing.
-use Prim.Native.Nat.{ℕ, suc, _+_, _*_, _≤_, _<_}
+use Prim.Native.Nat.{ℕ, _+_, _*_, _≤_, _<_}
 use mathlib.Core.List.{List, [], _∷_, _++_}
 use mathlib.Core.Path.{_≡_, refl, sym, ap, _∙_}
-use native.Mathlib.Nat.{zero-add, mul-suc, mul-le-mul-left}
 use native.Mathlib.Omega.{arith}
 use mathlib.Core.Bool.{Bool, false, not}
 use lib.Dec.{leb}
@@ -12,7 +11,7 @@ use Rattle.octets.specs.Numbers.{octetsOf}
 use Rattle.octets.specs.Runs.{octetsAt, joined, put}
 use Rattle.octets.proofs.Numbers.{length-octets}
 use Rattle.octets.proofs.Parts.{length-part, part-none, length-joined}
-use Rattle.octets.proofs.Runs.{put-one, put-after, lay-next, length-laid}
+use Rattle.octets.proofs.Runs.{put-one, put-after, length-laid}
 use Rattle.rows.specs.Rows.{tableOf, rowOctets}
 use Rattle.tables.specs.Rows.{Config, accountOctets, linkOctets}
 use Rattle.fields.specs.Fields.{fieldOf, tagAndLength}
@@ -59,18 +58,6 @@ length-row-field tag size rows i =
 
 pub length-fields : (tag size : ℕ) (rows : List ℕ) (n : ℕ) → length (joined (rowField tag size rows) n) ≡ (tagAndLength + size) * n
 length-fields tag size rows n = length-joined (rowField tag size rows) (tagAndLength + size) (length-row-field tag size rows) n
-
-pub fields-grow : (d e : List ℕ) (at tag size : ℕ) (rows : List ℕ) (n i : ℕ) → at + (tagAndLength + size) * n ≤ length d → i < n
-    → e ≡ put (put d at (joined (rowField tag size rows) i)) (at + (tagAndLength + size) * i) (fieldOf tag (octetsAt size rows (size * i)))
-    → e ≡ put d at (joined (rowField tag size rows) (suc i))
-fields-grow d e at tag size rows n i h l v =
-    v
-    ∙ ap (λ (p : ℕ). put (put d at (joined (rowField tag size rows) i)) (at + (tagAndLength + size) * i) (fieldOf tag (octetsAt size rows p))) (sym (zero-add (size * i)))
-    ∙ lay-next (rowField tag size rows) (tagAndLength + size) (length-row-field tag size rows) d at n i h l
-
--- where field i of n ends
-pub field-inside : (x i n : ℕ) → i < n → x * i + x ≤ x * n
-field-inside x i n l = rw (← mul-suc x i) (mul-le-mul-left x l)
 
 -- ---- the whole image
 pub length-image : (g : Config) → length (imageOf g) ≡ imageLength (g .accountCount) (g .linkCount)

@@ -1,17 +1,17 @@
--- Laws of filling a run row by row, and of what loading leaves. Assumes nothing.
-use Prim.Native.Nat.{ℕ, suc, _+_, _*_, _≤_, _<_, min}
+-- Laws of the rows that loading copies, and of what loading leaves. Assumes nothing.
+use Prim.Native.Nat.{ℕ, _+_, _*_, _<_, min}
 use mathlib.Core.Bool.{true}
-use mathlib.Core.List.{List, [], _∷_, _++_}
-use mathlib.Core.Path.{_≡_, sym, ap, _∙_}
-use native.Mathlib.Nat.{add-assoc, zero-add}
+use mathlib.Core.List.{List, [], _∷_}
+use mathlib.Core.Path.{_≡_, refl, ap, _∙_}
+use native.Mathlib.Nat.{add-assoc}
 use native.Mathlib.Omega.{arith}
 use lib.Dec.{eqb}
-use lib.ListN.{length, getD, set, replicate, length-replicate, replicate-append-replicate}
+use lib.ListN.{length, replicate}
 use borrow.Author.Tests.{eqb-true, eqb-false}
 use Rattle.octets.proofs.Tests.{split}
 use Rattle.octets.specs.Runs.{octetsAt, joined, put}
-use Rattle.octets.proofs.Parts.{length-part, part-same, getD-clamped, joined-same}
-use Rattle.octets.proofs.Runs.{put-next, put-none, lay-next}
+use Rattle.octets.proofs.Parts.{part-same, getD-from, joined-same}
+use Rattle.octets.proofs.Runs.{put-none}
 use Rattle.account.specs.Account.{accountOf, capacityOf}
 use Rattle.account.specs.declared.Account.{Account}
 use Rattle.account.proofs.Methods.{valid-by}
@@ -26,51 +26,16 @@ use Rattle.image.specs.declared.Loaded.{Loaded}
 use Rattle.loader.proofs.Loading.{loaded-good, refused-none}
 use Rattle.layout.proofs.Places.{account-place}
 
--- ---- one element more
-module _ (f : ℕ → List ℕ) (d : List ℕ) (n i x : ℕ) (h : n ≤ length d) (l : i < n) (e : f i ≡ x ∷ []) (j : length (joined f i) ≡ i) where
-  pub fill-one : set (put d 0 (joined f i)) i x ≡ put d 0 (joined f (suc i))
-  unfolding joined
-  fill-one =
-      let z : 0 + length (joined f i) ≡ i = zero-add (length (joined f i)) ∙ j in
-      ap (λ (p : ℕ). set (put d 0 (joined f i)) p x) (sym z)
-      ∙ put-next d 0 (joined f i) x (omega arith)
-      ∙ ap (λ (ys : List ℕ). put d 0 (joined f i ++ ys)) (sym e)
-
--- one zero more
-module _ (o : ℕ) where
-  fill-with : (d : List ℕ) (n i : ℕ) → n ≤ length d → i < n → set (put d 0 (replicate i o)) i o ≡ put d 0 (replicate (suc i) o)
-  fill-with d n i h l =
-      let j : length (replicate i o) ≡ i = length-replicate i o in
-      let z : 0 + length (replicate i o) ≡ i = zero-add (length (replicate i o)) ∙ j in
-      let k : i + 1 ≡ suc i = omega arith in
-      ap (λ (p : ℕ). set (put d 0 (replicate i o)) p o) (sym z)
-      ∙ put-next d 0 (replicate i o) o (omega arith)
-      ∙ ap (put d 0) (replicate-append-replicate i 1 o ∙ ap (λ (m : ℕ). replicate m o) k)
-
-pub fill-zero : (d : List ℕ) (n i : ℕ) → n ≤ length d → i < n → set (put d 0 (replicate i 0)) i 0 ≡ put d 0 (replicate (suc i) 0)
-fill-zero = fill-with 0
-
 -- ---- a row of the image, read from a place that is cut to the image's length
 pub row-clamped : (s : List ℕ) (first start size i : ℕ) → start ≡ min first (length s)
     → octetsAt size s (start + (tagAndLength + size) * i) ≡ rowOctets size (fieldRows s first size) i
 row-clamped s first start size i e =
     part-same size s s (start + (tagAndLength + size) * i) (first + (tagAndLength + size) * i)
     (λ k l.
-    ap (λ (p : ℕ). getD s p 0) (add-assoc start ((tagAndLength + size) * i) k ∙ ap (λ (p : ℕ). p + ((tagAndLength + size) * i + k)) e)
-    ∙ getD-clamped s first ((tagAndLength + size) * i + k)
-    ∙ ap (λ (p : ℕ). getD s p 0) (sym (add-assoc first ((tagAndLength + size) * i) k)))
+    let x : ℕ = (tagAndLength + size) * i in
+    rw (add-assoc start x k, add-assoc first x k) (getD-from s first (x + k) e refl))
 
--- the next row laid behind those before it
-pub row-laid : (s d e : List ℕ) (first start size n i : ℕ) → start ≡ min first (length s) → size * n ≤ length d → i < n
-    → e ≡ put (put d 0 (joined (rowOctets size (fieldRows s first size)) i)) (size * i) (octetsAt size s (start + (tagAndLength + size) * i))
-    → e ≡ put d 0 (joined (rowOctets size (fieldRows s first size)) (suc i))
-row-laid s d e first start size n i p h l v =
-    let f : ℕ → List ℕ = rowOctets size (fieldRows s first size) in
-    v ∙ ap (put (put d 0 (joined f i)) (size * i)) (row-clamped s first start size i p)
-    ∙ ap (λ (q : ℕ). put (put d 0 (joined f i)) q (f i)) (sym (zero-add (size * i)))
-    ∙ lay-next f size (λ k. length-part size s (first + (tagAndLength + size) * k)) d 0 n i (rw (zero-add (size * n)) h) l
-
--- all of them, of accounts and of links
+-- all rows, of accounts and of links
 module _ (s d e : List ℕ) (at : ℕ) where
   pub accounts-laid : (n : ℕ) → at ≡ dataPlace 0 0 → e ≡ put d 0 (joined (rowOctets accountOctets (fieldRows s at accountOctets)) n) → e ≡ put d 0 (accountRows s n)
   unfolding accountRows

@@ -4,7 +4,7 @@ use Prim.Native.Nat.{ℕ, zero, suc, _+_, _-_, _*_, _≤_, _<_, min}
 use mathlib.Core.Bool.{Bool, true, false, _&&_, false≢true}
 use mathlib.Core.List.{List, [], _∷_}
 use mathlib.Core.Path.{_≡_, refl, sym, ap, _∙_}
-use native.Mathlib.Nat.{zero-add, one-mul, mul-suc, mul-le-mul-left, min-le-right}
+use native.Mathlib.Nat.{zero-add, one-mul, min-le-right}
 use native.Mathlib.Omega.{arith}
 use lib.Dec.{leb, eqb}
 use lib.ListN.{length, getD, take, drop, replicate, length-take, length-replicate, getD-replicate}
@@ -13,7 +13,7 @@ use borrow.Author.Tests.{ltb-true, le-leb, leb-true, leb-false, eq-eqb, ne-eqb}
 use Rattle.octets.specs.Choice.{if_then_else_}
 use Rattle.octets.specs.Runs.{octetsAt, joined, put}
 use Rattle.octets.proofs.Tests.{split, both}
-use Rattle.octets.proofs.Parts.{length-part, getD-part, part-same, part-octet, length-joined, joined-at}
+use Rattle.octets.proofs.Parts.{length-part, getD-part, part-same, part-octet, length-joined, joined-at, row-below}
 use Rattle.octets.proofs.Runs.{put-fits}
 use Rattle.account.specs.Terms.{capacity}
 use Rattle.rows.specs.Rows.{Rows, rowOctets}
@@ -107,7 +107,7 @@ module _ (f : ℕ → List ℕ) (w : ℕ) (each : (i : ℕ) → length (f i) ≡
   pub rows-at : (i : ℕ) → i < n → octetsAt w d (w * i) ≡ f i
   rows-at i h =
       let l : length (joined f n) ≡ w * n = length-joined f w each n in
-      let b : w * i + w ≤ w * n = rw (← mul-suc w i) (mul-le-mul-left w h) in
+      let b = row-below w i n h in
       part-same w d (joined f n) (w * i) (w * i) (λ k c. begins-at (joined f n) d e (w * i + k) (omega arith))
       ∙ joined-at f w each n i h
 

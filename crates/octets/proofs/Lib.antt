@@ -1,4 +1,5 @@
 pub mod Claims
+pub mod Filled
 pub mod Leading
 pub mod Lists
 pub mod Numbers

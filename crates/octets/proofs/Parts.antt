@@ -24,6 +24,11 @@ getD-clamped s at k =
     ap (λ (i : ℕ). getD s (i + k) 0) (min-eq-right {n = length s} {m = at} (omega arith))
     ∙ List·getD-eq-default s 0 {n = length s + k} (omega arith) ∙ sym (List·getD-eq-default s 0 {n = at + k} (omega arith)))
 
+-- an octet read there
+pub getD-from : (s : List ℕ) (at k : ℕ) {start x : ℕ} → start ≡ min at (length s)
+    → x ≡ getD s (start + k) 0 → x ≡ getD s (at + k) 0
+getD-from s at k e v = v ∙ ap (λ (i : ℕ). getD s (i + k) 0) e ∙ getD-clamped s at k
+
 -- ---- a part of n octets that is lent, and a number that it begins with
 pub getD-within : (n at : ℕ) (s : List ℕ) (k : ℕ) → k < n → getD (take n (drop at s)) k 0 ≡ getD s (at + k) 0
 getD-within n at s k l = getD-take n (drop at s) k 0 l ∙ getD-drop at s k 0
@@ -114,6 +119,10 @@ octets-number (suc w) s at h =
     let r : (n * 256 + d) % 256 ≡ d = mul-add-mod-self-right n 256 d ∙ mod-eq-of-lt (h (at + w)) in
     ap₂ (λ (a b : ℕ). octetsOf w a ++ (b ∷ [])) q r ∙ ap (λ (xs : List ℕ). xs ++ (d ∷ [])) (octets-number w s at h)
 
+-- row i of n rows of w octets ends inside them
+pub row-below : (w i n : ℕ) → i < n → w * i + w ≤ w * n
+row-below w i n l = rw (← mul-suc w i) (mul-le-mul-left w l)
+
 -- ---- runs one after the other, each of w octets
 module _ (f : ℕ → List ℕ) (w : ℕ) (each : (i : ℕ) → length (f i) ≡ w) where
   pub length-joined : (n : ℕ) → length (joined f n) ≡ w * n
@@ -137,7 +146,7 @@ module _ (f : ℕ → List ℕ) (w : ℕ) (each : (i : ℕ) → length (f i) ≡
       ∙ ap f m)
       (λ e.
       let m : i < n = leb-false _ _ e in
-      let b : w * i + w ≤ w * n = rw (← mul-suc w i) (mul-le-mul-left w m) in
+      let b = row-below w i n m in
       part-front w (joined f n) (f n) (w * i) (omega (arith, length-joined n)) ∙ joined-at n i m)
 
 pub joined-same : (f g : ℕ → List ℕ) (n : ℕ) → ((i : ℕ) → i < n → f i ≡ g i) → joined f n ≡ joined g n

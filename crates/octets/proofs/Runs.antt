@@ -1,19 +1,19 @@
 -- Laws of runs laid into a longer run. Assumes nothing.
-use Prim.Native.Nat.{ℕ, suc, _+_, _-_, _*_, _/_, _%_, _^_, _≤_, _<_}
+use Prim.Native.Nat.{ℕ, _+_, _-_, _/_, _%_, _^_, _≤_, _<_}
 use mathlib.Core.Path.{_≡_, sym, ap, _∙_}
 use mathlib.Core.Bool.{Bool, true, not}
 use mathlib.Core.List.{List, [], _∷_, _++_, append-assoc, append-nil}
 use native.Mathlib.Omega.{arith}
-use native.Mathlib.Nat.{add-zero, add-assoc, mul-suc, mul-le-mul-left, mod-eq-of-lt, div-lt-iff-lt-mul}
+use native.Mathlib.Nat.{add-zero, add-assoc, mod-eq-of-lt, div-lt-iff-lt-mul}
 use native.Mathlib.Numerals.{add-one}
 use lib.Dec.{leb}
 use lib.ListN.{length, getD, take, drop, set, length-append, length-drop, take-append-drop, List·getD-append}
 use lib.Seq.{length-take-le, take-at, drop-append-add, drop-drop, getD-append-add, getD-take, getD-drop, sets-eq, take-add}
 use borrow.Author.Tests.{leb-true, leb-false, le-leb, lt-leb}
 use Rattle.octets.specs.Numbers.{octetsOf}
-use Rattle.octets.specs.Runs.{octetsAt, joined, put}
+use Rattle.octets.specs.Runs.{octetsAt, put}
 use Rattle.octets.proofs.Numbers.{length-octets, octets-join, octets-low}
-use Rattle.octets.proofs.Parts.{length-part, part-take, length-joined}
+use Rattle.octets.proofs.Parts.{length-part, part-take}
 use Rattle.octets.proofs.Tests.{split, no-room}
 
 -- with room, and without
@@ -146,16 +146,6 @@ put-own w d at =
     ∙ take-append-drop (at + w) d)
     (λ e. let h : length d < at + w = leb-false _ _ e in put-no-room d at xs (omega arith))
 
--- the next octet of a part laid behind those before it
-pub put-grows : (d : List ℕ) (place : ℕ) (s : List ℕ) (at i x : ℕ) → place + i < length d → x ≡ getD s (at + i) 0
-    → set (put d place (octetsAt i s at)) (place + i) x ≡ put d place (octetsAt (suc i) s at)
-unfolding octetsAt
-put-grows d place s at i x h e =
-    let l = length-part i s at in
-    ap (λ (n : ℕ). set (put d place (octetsAt i s at)) (place + n) x) (sym l)
-    ∙ put-next d place (octetsAt i s at) x (omega arith)
-    ∙ ap (λ (y : ℕ). put d place (octetsAt i s at ++ (y ∷ []))) e
-
 -- a run as long as the one it was laid into
 pub length-laid : (d : List ℕ) (at : ℕ) (xs e : List ℕ) → e ≡ put d at xs → length e ≡ length d
 length-laid d at xs e v = ap length v ∙ length-put d at xs
@@ -164,17 +154,3 @@ length-laid d at xs e v = ap length v ∙ length-put d at xs
 pub put-after : (d : List ℕ) (at : ℕ) (xs ys : List ℕ) (p : ℕ) → p ≡ at + length xs → p + length ys ≤ length d → put (put d at xs) p ys ≡ put d at (xs ++ ys)
 put-after d at xs ys p e h =
     ap (λ (q : ℕ). put (put d at xs) q ys) e ∙ put-beside d at xs ys (rw e at h)
-
--- ---- runs of w octets laid one after the other
-module _ (f : ℕ → List ℕ) (w : ℕ) (each : (i : ℕ) → length (f i) ≡ w) (d : List ℕ) (at : ℕ) where
-  pub lay-none : d ≡ put d at (joined f 0)
-  unfolding joined
-  lay-none = sym (put-none d at)
-
-  pub lay-next : (n i : ℕ) → at + w * n ≤ length d → i < n → put (put d at (joined f i)) (at + w * i) (f i) ≡ put d at (joined f (suc i))
-  unfolding joined
-  lay-next n i h l =
-      let j : length (joined f i) ≡ w * i = length-joined f w each i in
-      let k : length (f i) ≡ w = each i in
-      let m : w * i + w ≤ w * n = rw (← mul-suc w i) (mul-le-mul-left w l) in
-      put-after d at (joined f i) (f i) (at + w * i) (omega arith) (omega arith)

@@ -2,17 +2,13 @@
 use Prim.Native.Nat.{ℕ, _+_, _*_, _/_, _^_, _≤_, _<_, min}
 use mathlib.Core.List.{List}
 use mathlib.Core.Path.{_≡_, sym, ap, _∙_}
-use native.Mathlib.Nat.{mul-le-mul, mul-le-mul-left, mul-suc, add-assoc, min-le-right, div-mul-le-self, mul-comm}
+use native.Mathlib.Nat.{mul-le-mul, mul-le-mul-left, add-assoc, min-le-right, div-mul-le-self, mul-comm}
 use native.Mathlib.Omega.{arith}
 use lib.ListN.{length, getD}
 use Rattle.octets.specs.Numbers.{numberAt}
 use Rattle.octets.proofs.Numbers.{number-shift}
-use Rattle.octets.proofs.Parts.{getD-clamped}
+use Rattle.octets.proofs.Parts.{getD-clamped, row-below}
 use Rattle.rows.specs.Rows.{inUse}
-
--- row i below n ends no later than the first n rows do
-pub row-below : (w i n : ℕ) → i < n → w * i + w ≤ w * n
-row-below w i n h = rw (← mul-suc w i) (mul-le-mul-left w h)
 
 -- the rows in use are there whole
 module _ (w octets count n : ℕ) (e : n ≡ inUse w octets count) where

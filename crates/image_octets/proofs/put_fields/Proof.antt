@@ -1,29 +1,22 @@
 -- `put_fields`: nothing without room, else field by field. The loop's invariant: the first i fields are laid. Assumes nothing.
-use Prim.Native.Nat.{_+_, _-_, _*_, _≤_}
-use mathlib.Core.Path.{_≡_, refl, _∙_}
-use native.Mathlib.Nat.{le-antisymm}
-use native.Mathlib.Numerals.{add-one}
+use Prim.Native.Nat.{_+_, _-_}
+use mathlib.Core.Path.{refl}
+use native.Mathlib.Nat.{zero-add}
 use native.Mathlib.Omega.{arith}
-use lib.ListN.{length}
-use Rattle.octets.specs.Runs.{joined, put}
-use Rattle.octets.proofs.Runs.{put-refused, lay-none, length-laid}
+use Rattle.octets.proofs.Filled.{Filled, fill-start, fill-refused, fill-room, fill-next, fill-end}
 use Rattle.octets.proofs.Tests.{has-room}
 use Rattle.fields.specs.Fields.{tagAndLength}
 use Rattle.layout.proofs.Places.{small-product}
-use Rattle.image_octets.proofs.Laying.{rowField, length-row-field, length-fields, fields-grow, field-inside}
+use Rattle.image_octets.proofs.Laying.{rowField, length-row-field}
 use borrow.Author.Needs.{needs}
 use Rattle.image_octets.proofs.put_fields.Statement.{statement}
 use Rattle.image_octets.proofs.put_fields.Tie as tie
 
 abbrev Inv-loop : tie.InvT-loop
-Inv-loop room₀ at tag rows size n wide step i₀ room i = (i ≤ n) × (room ≡ put room₀ at (joined (rowField tag size rows) i)) × (length room ≡ length room₀)
+Inv-loop room₀ at tag rows size n wide step i₀ room i = Filled room₀ at (tagAndLength + size) (rowField tag size rows) n i room
 
 abbrev μ-loop : tie.MeasureT-loop
 μ-loop room₀ at tag rows size n wide step i₀ room i = n - i
-
--- past the test there is room for all fields
-enough : (c : tie.Else1 Inv-loop μ-loop) → c .before .before .before .before .args .at + (tagAndLength + c .before .before .before .before .args .size) * c .before .before .before .before .args .n ≤ length (c .before .before .before .before .args .room .now)
-enough c = has-room _ _ _ _ (c .before .has-room .ensures) (c .if1 .left)
 
 add-step : tie.Need-add-step Inv-loop μ-loop
 add-step c = search needs
@@ -35,23 +28,19 @@ has-room-requires : tie.Need-has-room-requires Inv-loop μ-loop
 has-room-requires c κs = search needs
 
 returns : tie.Need-returns Inv-loop μ-loop
-returns c = put-refused _ _ _ _ _ (c .before .has-room .ensures) (length-fields _ _ _ _) (c .if1 .taken)
+returns c = fill-refused _ _ _ _ _ (length-row-field _ _ _) refl (c .before .has-room .ensures) (c .if1 .taken)
 
 loop-holds : tie.Need-loop-holds Inv-loop μ-loop
-loop-holds c = let a = c .before .before .before .before .args in (omega arith, lay-none (rowField (a .tag) (a .size) (a .rows .now)) _ (length-row-field (a .tag) (a .size) (a .rows .now)) _ _, refl)
+loop-holds c = fill-start (length-row-field _ _ _) (has-room _ _ _ _ (c .before .has-room .ensures) (c .if1 .left))
 
 cast-put-field : tie.Need-cast-put-field Inv-loop μ-loop
 cast-put-field c = search needs
 
 mul-put-field : tie.Need-mul-put-field Inv-loop μ-loop
-mul-put-field c = let p = small-product (tagAndLength + c .before .before .before .before .before .before .before .args .size) (c .before .before .loop .i) (omega arith) (omega arith) in omega arith
+mul-put-field c = omega (arith, fill-room (c .before .before .loop .inv) (c .before .loop-test .taken))
 
 add-put-field : tie.Need-add-put-field Inv-loop μ-loop
-add-put-field c =
-    let a = c .before .before .before .before .before .before .before .args in
-    let h = enough (c .before .before .before) in
-    let k = field-inside (tagAndLength + a .size) (c .before .before .loop .i) (a .n) (c .before .loop-test .taken) in
-    omega arith
+add-put-field c = omega (arith, fill-room (c .before .before .loop .inv) (c .before .loop-test .taken))
 
 cast-put-field-2 : tie.Need-cast-put-field-2 Inv-loop μ-loop
 cast-put-field-2 c = search needs
@@ -70,19 +59,14 @@ loop-less c = omega arith
 
 loop-again : tie.Need-loop-again Inv-loop μ-loop
 loop-again c =
-    let a = c .before .before .before .before .before .before .before .before .before .before .args in
-    let i = c .before .before .before .before .before .loop .i in
-    let w = c .before .before .put-field .ensures in (
-      omega arith,
-      rw (add-one i) (fields-grow (a .room .now) _ (a .at) (a .tag) (a .size) (a .rows .now) (a .n) i (enough (c .before .before .before .before .before .before)) (c .before .before .before .before .loop-test .taken) (rw (c .before .before .before .before .before .loop .inv .1) at w)),
-      length-laid _ _ _ _ w ∙ c .before .before .before .before .before .loop .inv .2,
-    )
+    fill-next (c .before .before .before .before .before .loop .inv) (c .before .before .before .before .loop-test .taken) refl
+    (rw zero-add) (c .before .before .put-field .ensures)
 
 same-length : tie.Need-same-length Inv-loop μ-loop
-same-length c = c .before .loop .inv .2
+same-length c = c .before .loop .inv .long
 
 returns-2 : tie.Need-returns-2 Inv-loop μ-loop
-returns-2 c = rw (← le-antisymm (c .loop-test .left) (c .before .loop .inv .0)) at (c .before .loop .inv .1)
+returns-2 c = fill-end (c .before .loop .inv) (c .loop-test .left) refl
 
 pub put-fields-spec : {M : Type 1} → statement M
 put-fields-spec =

@@ -1,19 +1,17 @@
 -- `copy_padded`: the part octet by octet. The loop's invariant: the first i octets are laid. Assumes nothing.
-use Prim.Native.Nat.{ℕ, _+_, _-_, _≤_}
-use mathlib.Core.Path.{_≡_, refl, sym, ap, _∙_}
-use native.Mathlib.Nat.{le-antisymm, min-le-right}
-use native.Mathlib.Numerals.{add-one}
+use Prim.Native.Nat.{_-_}
+use mathlib.Core.Path.{refl}
+use native.Mathlib.Nat.{min-le-right}
 use native.Mathlib.Omega.{arith}
-use lib.ListN.{length, getD, length-set}
-use Rattle.octets.specs.Runs.{octetsAt, put}
-use Rattle.octets.proofs.Parts.{getD-clamped}
-use Rattle.octets.proofs.Runs.{put-none, put-grows}
+use lib.ListN.{length}
+use Rattle.octets.proofs.Parts.{getD-from}
+use Rattle.octets.proofs.Filled.{Filled, octetFrom, part-ones, fill-start, fill-one, fill-end}
 use borrow.Author.Needs.{needs}
 use Rattle.laying.proofs.copy_padded.Statement.{statement}
 use Rattle.laying.proofs.copy_padded.Tie as tie
 
 abbrev Inv-loop : tie.InvT-loop
-Inv-loop from at size to₀ place start i₀ to i = (i ≤ size) × (to ≡ put to₀ place (octetsAt i from at)) × (length to ≡ length to₀)
+Inv-loop from at size to₀ place start i₀ to i = Filled to₀ place 1 (octetFrom from at) size i to
 
 abbrev μ-loop : tie.MeasureT-loop
 μ-loop from at size to₀ place start i₀ to i = size - i
@@ -22,25 +20,21 @@ least-requires : tie.Need-least-requires Inv-loop μ-loop
 least-requires c κs = search needs
 
 loop-holds : tie.Need-loop-holds Inv-loop μ-loop
-unfolding octetsAt
-loop-holds c = (omega arith, sym (put-none (c .before .before .before .args .to .now) (c .before .before .before .args .place)), refl)
+loop-holds c = fill-start (λ k. refl) (omega (arith, c .before .before .before .pre))
 
 add-octet-at : tie.Need-add-octet-at Inv-loop μ-loop
 add-octet-at c =
     let a = c .before .before .before .before .before .args in
-    let h : a .place + a .size ≤ length (a .to .now) = c .before .before .before .before .before .pre in
-    let start = c .before .before .least .ensures in
-    let m = min-le-right (a .at) (length (a .from .now)) in
-    omega arith
+    omega (arith, c .before .before .least .ensures, min-le-right (a .at) (length (a .from .now)))
 
 octet-at-requires : tie.Need-octet-at-requires Inv-loop μ-loop
 octet-at-requires c κs = search needs
 
 add-to : tie.Need-add-to Inv-loop μ-loop
-add-to c = omega (arith, c .before .before .before .before .before .before .pre)
+add-to c = omega arith
 
 slice-write-to : tie.Need-slice-write-to Inv-loop μ-loop
-slice-write-to c = omega (arith, c .before .before .before .before .before .before .pre)
+slice-write-to c = omega arith
 
 add-i : tie.Need-add-i Inv-loop μ-loop
 add-i c = omega arith
@@ -50,23 +44,16 @@ loop-less c = omega arith
 
 loop-again : tie.Need-loop-again Inv-loop μ-loop
 loop-again c =
-    let s = c .before .before .before .before .before .before in
-    let a = s .args in
-    let i = c .before .before .loop .i in
-    let h : a .place + a .size ≤ length (a .to .now) = s .pre in
-    let start = c .before .before .before .least .ensures in (
-      omega arith,
-      rw (add-one i, c .before .before .loop .inv .1)
-          (put-grows (a .to .now) (a .place) (a .from .now) (a .at) i _ (omega arith)
-          (c .octet-at .ensures ∙ ap (λ (n : ℕ). getD (a .from .now) (n + i) 0) start ∙ getD-clamped (a .from .now) (a .at) i)),
-      simp length-set (c .before .before .loop .inv .2),
-    )
+    let s = c .before .before .before in
+    let l = c .before .before .loop in
+    fill-one (l .inv) (c .before .loop-test .taken) refl
+    (getD-from (s .before .before .before .args .from .now) _ (l .i) (s .least .ensures) (c .octet-at .ensures))
 
 same-length : tie.Need-same-length Inv-loop μ-loop
-same-length c = c .before .loop .inv .2
+same-length c = c .before .loop .inv .long
 
 returns : tie.Need-returns Inv-loop μ-loop
-returns c = rw (← le-antisymm (c .loop-test .left) (c .before .loop .inv .0)) at (c .before .loop .inv .1)
+returns c = fill-end (c .before .loop .inv) (c .loop-test .left) (part-ones _ _ _)
 
 pub copy-padded-spec : {M : Type 1} → statement M
 copy-padded-spec =

@@ -6,9 +6,9 @@ use native.Mathlib.Omega.{arith}
 use lib.ListN.{length}
 use Rattle.octets.specs.Leading.{leading}
 use Rattle.octets.proofs.Leading.{leading-zero}
+use Rattle.octets.proofs.Parts.{row-below}
 use Rattle.rows.specs.Rows.{tableOf, otherNumber}
 use Rattle.rows.proofs.Finding.{search-on, search-hit, search-miss}
-use Rattle.rows.proofs.Rows.{row-below}
 use Rattle.rows.proofs.search.Statement.{statement}
 use Rattle.rows.proofs.search.Tie as tie
 

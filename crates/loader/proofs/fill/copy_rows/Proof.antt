@@ -1,31 +1,26 @@
 -- `copy_rows`: nothing without room, else row by row. The loop's invariant: the first i rows are laid. Assumes nothing.
-use Prim.Native.Nat.{_+_, _-_, _*_, _≤_}
-use mathlib.Core.Path.{_≡_, refl, _∙_}
-use native.Mathlib.Nat.{le-antisymm, min-le-right}
-use native.Mathlib.Numerals.{add-one}
+use Prim.Native.Nat.{_+_, _-_}
+use mathlib.Core.Path.{refl}
+use native.Mathlib.Nat.{min-le-right}
 use native.Mathlib.Omega.{arith}
 use lib.ListN.{length}
-use Rattle.octets.specs.Runs.{joined, put}
-use Rattle.octets.proofs.Parts.{length-part, length-joined}
-use Rattle.octets.proofs.Runs.{put-refused, length-laid, lay-none}
-use Rattle.octets.proofs.Tests.{has-room-first}
+use Rattle.octets.proofs.Parts.{length-part}
+use Rattle.octets.proofs.Filled.{Filled, fill-start, fill-refused, fill-room, fill-next, fill-end}
+use Rattle.octets.proofs.Tests.{has-room}
 use Rattle.rows.specs.Rows.{rowOctets}
 use Rattle.image.specs.Read.{fieldRows}
 use Rattle.layout.proofs.Places.{small-product}
-use Rattle.loader.proofs.Filling.{row-laid}
+use Rattle.loader.proofs.Filling.{row-clamped}
 use borrow.Author.Needs.{needs}
 use Rattle.loader.proofs.fill.copy_rows.Statement.{statement}
 use Rattle.loader.proofs.fill.copy_rows.Tie as tie
 
 abbrev Inv-loop : tie.InvT-loop
-Inv-loop image first size n rows₀ wide start i₀ rows i = (i ≤ n) × (rows ≡ put rows₀ 0 (joined (rowOctets size (fieldRows image first size)) i)) × (length rows ≡ length rows₀)
+Inv-loop image first size n rows₀ wide start i₀ rows i =
+    Filled rows₀ 0 size (rowOctets size (fieldRows image first size)) n i rows
 
 abbrev μ-loop : tie.MeasureT-loop
 μ-loop image first size n rows₀ wide start i₀ rows i = n - i
-
--- past the test there is room for all rows
-room : (c : tie.Else1 Inv-loop μ-loop) → c .before .before .before .before .args .size * c .before .before .before .before .args .n ≤ length (c .before .before .before .before .args .rows .now)
-room c = has-room-first _ _ _ (c .before .has-room .ensures) (c .if1 .left)
 
 mul-has-room : tie.Need-mul-has-room Inv-loop μ-loop
 mul-has-room c = let p = small-product (c .before .before .args .size) (c .before .before .args .n) (omega arith) (omega arith) in omega arith
@@ -34,13 +29,14 @@ has-room-requires : tie.Need-has-room-requires Inv-loop μ-loop
 has-room-requires c κs = search needs
 
 returns : tie.Need-returns Inv-loop μ-loop
-returns c = put-refused _ _ _ _ _ (c .before .has-room .ensures) (length-joined (rowOctets (c .before .before .before .before .args .size) (fieldRows (c .before .before .before .before .args .image .now) (c .before .before .before .before .args .first) (c .before .before .before .before .args .size))) _ (λ i. length-part _ _ _) _) (c .if1 .taken)
+returns c = fill-refused _ _ _ _ _ (λ k. length-part _ _ _) refl (c .before .has-room .ensures) (c .if1 .taken)
 
 least-requires : tie.Need-least-requires Inv-loop μ-loop
 least-requires c κs = search needs
 
 loop-holds : tie.Need-loop-holds Inv-loop μ-loop
-loop-holds c = (omega arith, lay-none (rowOctets (c .before .before .before .before .before .args .size) (fieldRows (c .before .before .before .before .before .args .image .now) (c .before .before .before .before .before .args .first) (c .before .before .before .before .before .args .size))) _ (λ i. length-part _ _ _) _ 0, refl)
+loop-holds c =
+    fill-start (λ k. length-part _ _ _) (has-room _ _ _ _ (c .before .before .has-room .ensures) (c .before .if1 .left))
 
 add-at : tie.Need-add-at Inv-loop μ-loop
 add-at c = search needs
@@ -63,7 +59,7 @@ cast-copy : tie.Need-cast-copy Inv-loop μ-loop
 cast-copy c = search needs
 
 mul-copy : tie.Need-mul-copy Inv-loop μ-loop
-mul-copy c = let p = small-product (c .before .before .before .before .before .before .before .before .args .size) (c .before .before .loop .i) (omega arith) (omega arith) in omega arith
+mul-copy c = omega (arith, fill-room (c .before .before .loop .inv) (c .before .loop-test .taken))
 
 copy-requires : tie.Need-copy-requires Inv-loop μ-loop
 copy-requires c κs = search needs
@@ -76,19 +72,15 @@ loop-less c = omega arith
 
 loop-again : tie.Need-loop-again Inv-loop μ-loop
 loop-again c =
-    let a = c .before .before .before .before .before .before .before .before .before .before .before .args in
-    let i = c .before .before .before .before .before .loop .i in
-    let w = c .before .before .copy .ensures in (
-      omega arith,
-      rw (add-one i) (row-laid (a .image .now) (a .rows .now) _ (a .first) _ (a .size) (a .n) i (c .before .before .before .before .before .before .least .ensures) (room (c .before .before .before .before .before .before .before)) (c .before .before .before .before .loop-test .taken) (rw (c .before .before .before .before .before .loop .inv .1) at w)),
-      length-laid _ _ _ _ w ∙ c .before .before .before .before .before .loop .inv .2,
-    )
+    let s = c .before .before .before .before .before in
+    fill-next (s .loop .inv) (c .before .before .before .before .loop-test .taken) (omega arith)
+    (row-clamped _ _ _ _ (s .loop .i) (s .before .least .ensures)) (c .before .before .copy .ensures)
 
 same-length : tie.Need-same-length Inv-loop μ-loop
-same-length c = c .before .loop .inv .2
+same-length c = c .before .loop .inv .long
 
 returns-2 : tie.Need-returns-2 Inv-loop μ-loop
-returns-2 c = rw (← le-antisymm (c .loop-test .left) (c .before .loop .inv .0)) at (c .before .loop .inv .1)
+returns-2 c = fill-end (c .before .loop .inv) (c .loop-test .left) refl
 
 pub copy-rows-spec : {M : Type 1} → statement M
 copy-rows-spec =

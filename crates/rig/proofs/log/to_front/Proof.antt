@@ -1,37 +1,36 @@
--- `to_front`: nothing where the run is too short, else octet by octet. The loop's invariant: the first i octets are laid. Assumes nothing.
-use Prim.Native.Nat.{_-_, _≤_}
-use mathlib.Core.Path.{_≡_, refl}
-use native.Mathlib.Nat.{le-antisymm, min-le-right}
-use native.Mathlib.Numerals.{add-one}
+-- `to_front`: nothing where the run is too short, else octet by octet. The loop's invariant: the first i octets are laid, so
+-- those read next are as they were. Assumes nothing.
+use Prim.Native.Nat.{_-_}
+use mathlib.Core.Path.{refl, sym, _∙_}
+use native.Mathlib.Nat.{zero-add, min-le-right}
 use native.Mathlib.Omega.{arith}
-use lib.ListN.{length, length-set}
+use lib.ListN.{length}
 use borrow.Author.Needs.{needs}
-use Rattle.octets.specs.Runs.{octetsAt, put}
-use Rattle.rig.proofs.Front.{front-none, front-start, front-grows}
+use Rattle.octets.proofs.Parts.{length-part, getD-from}
+use Rattle.octets.proofs.Runs.{put-no-room}
+use Rattle.octets.proofs.Filled.{Filled, octetFrom, part-ones, fill-start, fill-one, fill-beyond, fill-end}
 use Rattle.rig.proofs.log.to_front.Statement.{statement}
 use Rattle.rig.proofs.log.to_front.Tie as tie
 
 abbrev Inv-loop : tie.InvT-loop
-Inv-loop log₀ at size start i₀ log i = (i ≤ size) × (log ≡ put log₀ 0 (octetsAt i log₀ at)) × (length log ≡ length log₀)
+Inv-loop log₀ at size start i₀ log i = Filled log₀ 0 1 (octetFrom log₀ at) size i log
 
 abbrev μ-loop : tie.MeasureT-loop
 μ-loop log₀ at size start i₀ log i = size - i
 
 returns : tie.Need-returns Inv-loop μ-loop
-returns c = front-none _ _ _ (c .if1 .taken)
+returns c = sym (put-no-room _ 0 _ (simp length-part (omega arith)))
 
 least-requires : tie.Need-least-requires Inv-loop μ-loop
 least-requires c κs = search needs
 
 loop-holds : tie.Need-loop-holds Inv-loop μ-loop
-loop-holds c = (omega arith, front-start (c .before .before .before .args .log .now) (c .before .before .before .args .at), refl)
+loop-holds c = fill-start (λ k. refl) (omega arith)
 
 add-octet-at : tie.Need-add-octet-at Inv-loop μ-loop
 add-octet-at c =
     let a = c .before .before .before .before .before .before .args in
-    let start = c .before .before .before .least .ensures in
-    let m = min-le-right (a .at) (length (a .log .now)) in
-    omega arith
+    omega (arith, c .before .before .before .least .ensures, min-le-right (a .at) (length (a .log .now)))
 
 octet-at-requires : tie.Need-octet-at-requires Inv-loop μ-loop
 octet-at-requires c κs = search needs
@@ -47,18 +46,17 @@ loop-less c = omega arith
 
 loop-again : tie.Need-loop-again Inv-loop μ-loop
 loop-again c =
-    let a = c .before .before .before .before .before .before .before .args in
-    let l = c .before .before .before .loop in (
-      omega arith,
-      rw (add-one (l .i)) (front-grows (a .log .now) (a .at) _ _ _ _ (omega arith) (c .before .before .before .before .least .ensures) (l .inv .1) (c .octet-at .ensures)),
-      simp length-set (l .inv .2),
-    )
+    let s = c .before .before .before .before in
+    let l = c .before .before .before .loop in
+    fill-one (l .inv) (c .before .before .loop-test .taken) (sym (zero-add _))
+    (getD-from (s .before .before .before .args .log .now) _ (l .i) (s .least .ensures)
+    (c .octet-at .ensures ∙ fill-beyond (l .inv) _ (omega arith)))
 
 same-length : tie.Need-same-length Inv-loop μ-loop
-same-length c = c .before .loop .inv .2
+same-length c = c .before .loop .inv .long
 
 returns-2 : tie.Need-returns-2 Inv-loop μ-loop
-returns-2 c = rw (← le-antisymm (c .loop-test .left) (c .before .loop .inv .0)) at (c .before .loop .inv .1)
+returns-2 c = fill-end (c .before .loop .inv) (c .loop-test .left) (part-ones _ _ _)
 
 pub to-front-spec : {M : Type 1} → statement M
 to-front-spec =
