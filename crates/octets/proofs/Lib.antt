@@ -1,5 +1,4 @@
 pub mod Claims
-pub mod Lists
 pub mod Numbers
 pub mod Parts
 pub mod Runs

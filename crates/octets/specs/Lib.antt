@@ -1,5 +1,4 @@
 pub mod Choice
 pub mod Claims
-pub mod Lists
 pub mod Numbers
 pub mod Runs

@@ -7,9 +7,10 @@ use mathlib.Core.Path.{_≡_, refl, sym, ap, ap₂, _∙_, subst}
 use native.Mathlib.Omega.{arith}
 use lib.ListN.{length}
 use borrow.Author.Tests.{eqb-true}
-use Rattle.octets.specs.Lists.{only}
-use Rattle.octets.proofs.Lists.{only-none, only-take, only-drop}
-use Rattle.octets.proofs.Tests.{split}
+use Rattle.lists.specs.History
+use Rattle.lists.specs.Lists.{only}
+use Rattle.lists.proofs.Lists.{only-none, only-take, only-drop}
+use Rattle.lists.proofs.Tests.{split}
 use Rattle.tables.specs.declared.Found.{Found}
 use Rattle.tables.specs.declared.Found.the-variants.{At, Nowhere}
 use Rattle.receive.specs.declared.Arrival.{Arrival}
@@ -139,7 +140,7 @@ module _ (link : ℕ) (x : Network) (n : ℕ) (f : Arrival) (p : List Answered) 
 module _ (link : ℕ) (x : Network) (n : ℕ) (rows : List ℕ) (words : ℕ) where
   counted : (h : List Arrival) → Octets h → (p : List Answered) (r : List ℕ) → Stands rows words p r
       → copies link x n (answers rows r h) ≤ deliveries link (other x) n (answers rows r h) + waits (unmet (other x) n (ofLink link p))
-  unfolding answers
+  unfolding History.answers
   counted [] o p r st = rw (only-none (λ (a : Answered). onLink link (a .frame) && (numbered x n (a .frame) && isCopy (a .says)))) (omega arith)
   counted (f ∷ fs) o p r st =
       let s = one-step rows words p r st f (o f (List·Memᴰ·head refl)) in
