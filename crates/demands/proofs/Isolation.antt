@@ -67,7 +67,8 @@ module _ (s : List ℕ) (a : ℕ) where
   reached-mine : (mine past : List Call) → mine ≡ only (meant s a) past → reachedIn s past a ≡ reachedIn s mine a
   reached-mine mine past e = sym (reached-meant past) ∙ ap (λ (c : List Call). reachedIn s c a) (sym e)
 
-  mine-holds : (g : Config) (mine : List Call) (q : State) → Mine g mine q → a < readImage s .accounts → accountHeld (g .accounts) q a ≡ account-of s mine a
+  mine-holds : (g : Config) (mine : List Call) (q : State) → Mine g mine q → a < readImage s .accounts
+      → accountHeld (g .accounts) q a ≡ account-of s mine a
   mine-holds g mine q m b = m .2 .is a b ∙ ap (state (imageTerms s a)) (reached-mine mine (m .0) (m .1))
 
   -- the calls meant for the account are answered by these alone
@@ -95,7 +96,8 @@ pub isolation-of-fresh-tables : IsolationOfFreshTables
 isolation-of-fresh-tables s a b r fresh h r′ fresh′ h′ e =
     let g : Config = configIn s r in
     let g′ : Config = configIn s r′ in
-    let z = alike h h′ (alone s a g (tables s r fresh) h) (alone s a g′ (tables s r′ fresh′) h′) e [] (stateIn r) (mine-starts s a r fresh) (stateIn r′) (mine-starts s a r′ fresh′) in
+    let z = alike h h′ (alone s a g (tables s r fresh) h) (alone s a g′ (tables s r′ fresh′) h′) e
+    [] (stateIn r) (mine-starts s a r fresh) (stateIn r′) (mine-starts s a r′ fresh′) in
     let x = holds (r .accounts) (final g (stateIn r) h) a _ (mine-holds s a g _ _ (z .1) b) in
     let y = holds (r′ .accounts) (final g′ (stateIn r′) h′) a _ (mine-holds s a g′ _ _ (z .2) b) in
     record { verdicts = z .0; credit = x .0 ∙ sym (y .0); last = x .1 ∙ sym (y .1) }

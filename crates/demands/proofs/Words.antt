@@ -47,7 +47,8 @@ rule-of-history s r z h =
 next-call : (s : List ℕ) (r : Runs) → Fresh s r → (before : List Call) (f : Call)
     → Ruled s (configIn s r) (reverse before) f (called (configIn s r) (final (configIn s r) (stateIn r) before) f)
 next-call s r fresh before f =
-    one-call s (configIn s r) (tables s r fresh) (reverse before) (final (configIn s r) (stateIn r) before) (history-stands s r fresh before) f
+    one-call s (configIn s r) (tables s r fresh) (reverse before) (final (configIn s r) (stateIn r) before)
+    (history-stands s r fresh before) f
 
 code-arrived : (s : List ℕ) (past : List Call) (f : Call) → filterCode s f ≡ 0
     → ruleCode s past f ≡ ruleArrived (imageTerms s (accountNamed s (linkRow s f))) (reachedIn s past (accountNamed s (linkRow s f))) (length (f .octets)) (f .time) .code
@@ -73,8 +74,10 @@ code-filtered s past f h = simp (ne-eqb _ _ h)
 
 pub others-in-words : OthersInWords
 others-in-words s r fresh before f =
-    let o = next-call s r fresh before f in
-    (λ h. o .code ∙ code-filtered s (reverse before) f h, λ z h. o .code ∙ code-arrived s (reverse before) f z ∙ arrived-late _ _ _ _ h)
+    let o = next-call s r fresh before f in (
+      λ h. o .code ∙ code-filtered s (reverse before) f h,
+      λ z h. o .code ∙ code-arrived s (reverse before) f z ∙ arrived-late _ _ _ _ h,
+    )
 
 -- ---- 10 never
 filter-code-high : (s : List ℕ) (f : Call) → filterCode s f ≤ 7
@@ -100,4 +103,5 @@ rule-code-high s past f =
 
 pub ten-never : TenNever
 ten-never s r fresh h c i =
-    answers-each (ruleOfCalls s) (λ (d : ℕ). d ≤ 9) (rule-code-high s) h [] c (subst (List·Memᴰ c) (rule-of-fresh-tables s r fresh h) i)
+    answers-each (ruleOfCalls s) (λ (d : ℕ). d ≤ 9) (rule-code-high s) h [] c
+    (subst (List·Memᴰ c) (rule-of-fresh-tables s r fresh h) i)

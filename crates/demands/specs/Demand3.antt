@@ -33,13 +33,14 @@ RuleOfHistory =
 abbrev pub RuleOfFreshTables : Type 0
 RuleOfFreshTables = (s : List ℕ) (r : Runs) → Fresh s r → (h : List Call) → codes (answers (configIn s r) (stateIn r) h) ≡ ruleCodes s h
 
--- in words, for a frame f on account a after a past, the newest first, and the code that it got: 0 exactly where, from itself and from each
--- frame that reached the account earlier, the costs forwarded since and its own are within the allowance; else 9
+-- in words, for a frame f on account a after a past, and the code that it got: 0 exactly where, from itself and from each frame that
+-- reached the account earlier, the costs forwarded since and its own are within the allowance; else 9
 pub record Judged (s : List ℕ) (past : List Call) (f : Call) (a code : ℕ) : Type 0 where
   pub exactly : (code ≡ 0) ↔ FromEach (allowance (imageTerms s a)) (f .time) (cost (imageTerms s a) (length (f .octets))) (reachedIn s past a)
   pub otherwise : (FromEach (allowance (imageTerms s a)) (f .time) (cost (imageTerms s a) (length (f .octets))) (reachedIn s past a) → ⊥) → code ≡ 9
 
--- of every frame that reaches its account after the calls `before`: no code before 8 fits it, and no frame that reached the account is later
+-- of every frame that reaches its account after the calls `before`: no code before 8 fits it, and no frame that reached the account
+-- is later
 abbrev pub RuleInWords : Type 0
 RuleInWords =
     (s : List ℕ) (r : Runs) → Fresh s r → (before : List Call) (f : Call) → filterCode s f ≡ 0

@@ -1,5 +1,5 @@
--- Tests and what they say: a choice by its test's value, both halves of a conjunction, neither of two numbers, orders that imply each
--- other. Assumes nothing.
+-- Tests and what they say: a choice by its test's value, both halves of a conjunction, neither of two numbers, orders that imply
+-- each other. Assumes nothing.
 use Prim.Native.Nat.{ℕ, _≤_, _<_}
 use mathlib.Core.Bool.{Bool, true, false, _&&_, false≢true}
 use mathlib.Core.Logic.{_⊎_, ⊎-elim}

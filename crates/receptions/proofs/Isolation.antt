@@ -53,7 +53,9 @@ module _ (link : ℕ) (rows : List ℕ) (words j : ℕ) (e : rowFound rows words
       record {
         picked = λ f m on s r q.
             let l : f .link ≡ link = eqb-true _ _ on in
-            let b = by-own-record rows r j rows′ s i f (o f m) (ap₂ (rowFound rows) (q .0) l ∙ e) (ap₂ (rowFound rows′) (q .1) l ∙ e′) skew (q .2) in
+            let p : rowFound rows (length r) (f .link) ≡ At j = ap₂ (rowFound rows) (q .0) l ∙ e in
+            let p′ : rowFound rows′ (length s) (f .link) ≡ At i = ap₂ (rowFound rows′) (q .1) l ∙ e′ in
+            let b = by-own-record rows r j rows′ s i f (o f m) p p′ skew (q .2) in
             (ap (answeredOf f) (b .0), (length-call rows r f (o f m) ∙ q .0, length-call rows′ s f (o f m) ∙ q .1, b .1));
         others = λ f m off s r q.
             let p : rowFound rows (length r) link ≡ At j = ap (λ (k : ℕ). rowFound rows k link) (q .0) ∙ e in
@@ -69,7 +71,8 @@ unknown : (link : ℕ) (rows : List ℕ) (words : ℕ) → rowFound rows words l
 unknown link rows words e h o =
     record {
       picked = λ f m on _ r n.
-          (ap (λ (z : After). answeredOf f (z .says)) (call-nowhere rows r f (ap₂ (rowFound rows) n (eqb-true _ _ on) ∙ e)), length-call rows r f (o f m) ∙ n);
+          let p : rowFound rows (length r) (f .link) ≡ Nowhere = ap₂ (rowFound rows) n (eqb-true _ _ on) ∙ e in
+          (ap (λ (z : After). answeredOf f (z .says)) (call-nowhere rows r f p), length-call rows r f (o f m) ∙ n);
       others = λ f m off _ r n. length-call rows r f (o f m) ∙ n;
     }
 
@@ -82,7 +85,8 @@ same-words r s j i h l same =
     ∙ part-same recordWords r s (recordWords * j) (recordWords * i) same
     ∙ part-take recordWords s (recordWords * i) l
 
-record-at : (rows w : List ℕ) (words link : ℕ) (d : Found) → length w ≡ words → rowFound rows words link ≡ d → recordOf rows w link ≡ recordBy w d
+record-at : (rows w : List ℕ) (words link : ℕ) (d : Found) → length w ≡ words → rowFound rows words link ≡ d
+    → recordOf rows w link ≡ recordBy w d
 record-at rows w words link d n e = ap (recordBy w) (ap (λ (k : ℕ). rowFound rows k link) n ∙ e)
 
 -- ---- two histories
@@ -102,7 +106,9 @@ module _ (link : ℕ) (rows r : List ℕ) (z : Empty rows r) (h : List Arrival) 
   both-known j i e e′ skew =
       let in-use = row-is-first rows (length r) link j e .0 in
       let in-use′ = row-is-first rows′ (length r′) link i e′ .0 in
-      let a = alike h h′ (known link rows (length r) j e rows′ (length r′) i e′ skew h o) (known link rows′ (length r′) i e′ rows′ (length r′) i e′ refl h′ o′) g
+      let a = alike h h′
+      (known link rows (length r) j e rows′ (length r′) i e′ skew h o)
+      (known link rows′ (length r′) i e′ rows′ (length r′) i e′ refl h′ o′) g
       r′ r (refl, refl, λ k l. z j in-use k l ∙ sym (z′ i in-use′ k l)) r′ (refl, refl, λ k l. refl) in
       let n : length (final rows r h) ≡ length r = a .1 .0 in
       let m : length (final rows′ r′ h′) ≡ length r′ = a .2 .0 in
@@ -112,7 +118,8 @@ module _ (link : ℕ) (rows r : List ℕ) (z : Empty rows r) (h : List Arrival) 
         says = a .0;
         leaves =
             record-at rows (final rows r h) (length r) link (At j) n e
-            ∙ same-words (final rows r h) (final rows′ r′ h′) j i (omega arith) (omega arith) (λ k l. a .1 .2 k l ∙ sym (a .2 .2 k l))
+            ∙ same-words (final rows r h) (final rows′ r′ h′) j i (omega arith) (omega arith)
+            (λ k l. a .1 .2 k l ∙ sym (a .2 .2 k l))
             ∙ sym (record-at rows′ (final rows′ r′ h′) (length r′) link (At i) m e′);
       }
 

@@ -125,12 +125,13 @@ module _ (rows : List ℕ) (words : ℕ) (p : List Answered) (r : List ℕ) (st 
       cases (At j) e = subst (Step rows words p f) (sym (call-at rows r f j (by-length (At j) e))) (known-step j e)
 
 -- ---- a list of calls
-each-frame : (rows : List ℕ) (words : ℕ) (h : List Arrival) → Octets h → Simulates (receiving rows) (ruleOfFrames rows words) (λ a. a) (Stands rows words) h
+each-frame : (rows : List ℕ) (words : ℕ) (h : List Arrival) → Octets h
+    → Simulates (receiving rows) (ruleOfFrames rows words) (λ a. a) (Stands rows words) h
 each-frame rows words h o =
     record {
       each = λ f i p r st.
           let s = one-step rows words p r st f (o f i) in
-          let a : answeredOf f (received rows r f .says) ≡ answeredOf f (ruleAnswer rows words p f) = ap (answeredOf f) (s .says) in
+          let a = ap (answeredOf f) (s .says) in
           (a, subst (λ (b : Answered). Stands rows words (b ∷ p) (received rows r f .records)) a (s .stands));
     }
 
@@ -146,10 +147,12 @@ pub rule-of-receptions : RuleOfReceptions
 rule-of-receptions rows r z h o = same-answers h (each-frame rows (length r) h o) [] r (starts rows r z)
 
 -- the past of the rule is that of the answers
-stands-after : (rows r : List ℕ) → Empty rows r → (before : List Arrival) → Octets before → Stands rows (length r) (pastOf rows r before) (final rows r before)
+stands-after : (rows r : List ℕ) → Empty rows r → (before : List Arrival) → Octets before
+    → Stands rows (length r) (pastOf rows r before) (final rows r before)
 stands-after rows r z before o =
     subst (λ (p : List Answered). Stands rows (length r) p (final rows r before))
-    (final-answers (λ past f. answeredOf f (ruleAnswer rows (length r) past f)) before ∙ ap reverse (sym (rule-of-receptions rows r z before o)))
+    (final-answers (λ past f. answeredOf f (ruleAnswer rows (length r) past f)) before
+    ∙ ap reverse (sym (rule-of-receptions rows r z before o)))
     (simulated-final before (each-frame rows (length r) before o) [] r (starts rows r z))
 
 pub rule-of-next : RuleOfNext

@@ -82,7 +82,8 @@ module _ (p : Terms) (frames : byOctets (p .mode) ≡ false) (pos : 1 ≤ rate p
       (λ e. simp (e, arrived-grown z n t))
       (λ e. simp e)
 
-  each-grown : (steps : List Arrival) → Simulates (ruleOfAccount p) (ruleOfAccount unit) (λ c. c) (λ z y. y ≡ grown (rate p) pos z) steps
+  each-grown : (steps : List Arrival)
+      → Simulates (ruleOfAccount p) (ruleOfAccount unit) (λ c. c) (λ z y. y ≡ grown (rate p) pos z) steps
   unfolding grown-ruled
   each-grown steps =
       record {

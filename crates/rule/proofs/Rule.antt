@@ -123,8 +123,10 @@ module _ (p : Terms) where
       record {
         each = λ f _ past a st.
             let q = stepping past (st .1) ok (f .octets) (f .time) in
-            let e = ap (λ (b : Account). policed b (f .octets) (f .time)) (st .0) in
-            (ap (λ (z : Stepped). z .says .code) e ∙ q .same-code, (ap (λ (z : Stepped). z .account) e ∙ q .same-account, q .sound));
+            let e = ap (λ (b : Account). policed b (f .octets) (f .time)) (st .0) in (
+              ap (λ (z : Stepped). z .says .code) e ∙ q .same-code,
+              (ap (λ (z : Stepped). z .account) e ∙ q .same-account, q .sound),
+            );
       }
 
   -- what loading leaves is the account that no frame has reached

@@ -22,7 +22,11 @@ pub record Arrival : Type 0 where
 
 -- ---- the steps: each on the account that the one before left
 abbrev pub steppingAccount : Machine Account Arrival Told
-steppingAccount = record { says = λ a s. policed a (s .octets) (s .time) .says; leaves = λ a s. policed a (s .octets) (s .time) .account }
+steppingAccount =
+    record {
+      says = λ a s. policed a (s .octets) (s .time) .says;
+      leaves = λ a s. policed a (s .octets) (s .time) .account;
+    }
 
 -- what the last step leaves, and what the steps answer
 abbrev pub accountAfter : Account → List Arrival → Account
@@ -64,7 +68,10 @@ ruleStep p past n t =
 -- the rule for a list of steps, each with the frames that have reached the account
 abbrev pub ruleOfAccount : Terms → Machine (List Reached) Arrival ℕ
 ruleOfAccount p =
-    record { says = λ past s. ruleStep p past (s .octets) (s .time) .code; leaves = λ past s. ruleStep p past (s .octets) (s .time) .past }
+    record {
+      says = λ past s. ruleStep p past (s .octets) (s .time) .code;
+      leaves = λ past s. ruleStep p past (s .octets) (s .time) .past;
+    }
 
 -- the codes, and the frames that have then reached the account
 abbrev pub ruleCodes : Terms → List Reached → List Arrival → List ℕ
