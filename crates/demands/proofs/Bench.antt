@@ -6,6 +6,7 @@ use mathlib.Core.List.{List, [], _∷_}
 use mathlib.Core.Path.{_≡_, refl, sym, ap, _∙_}
 use lib.ListN.{getD, set}
 use lib.Dec.{lit<}
+use Rattle.lists.specs.History
 use Rattle.octets.specs.Numbers.{numberAt}
 use Rattle.octets.specs.Runs.{octetsAt, joined}
 use Rattle.frame.specs.Frame.{lengthCode}
@@ -32,8 +33,7 @@ use Rattle.demands.specs.History.{answers, final, configIn, stateIn}
 use Rattle.demands.specs.Rule.{imageTerms, meant}
 use Rattle.demands.specs.Demand3.{MeantLimits}
 use Rattle.demands.specs.Bench.{frameImageP, calls, verdicts, replied, left, CallBenchTable}
-use Rattle.demands.proofs.Tables.{tables}
-use Rattle.demands.proofs.Rule.{history-verdicts, starts}
+use Rattle.demands.proofs.Rule.{history-verdicts}
 use Rattle.demands.proofs.Words.{loaded-fresh, loaded-config}
 use Rattle.demands.proofs.Isolation.{isolation-of-fresh-tables}
 
@@ -76,11 +76,11 @@ abbrev full : State
 full = stateOf (300000 ∷ []) (0 ∷ [])
 
 computed : answers (config-by accountP answerP) full (calls byteCases) ≡ verdicts byteCases
-unfolding answers called routed frameCode lengthCode numberAt foundIn leading linkAt accountHeld termsAt inUse decided portsSound sizesSound linkSound inLimits bag added charge rate capacity byOctets charged cost valid creditAt judged policed portCode
+unfolding History.answers called routed frameCode lengthCode numberAt foundIn leading linkAt accountHeld termsAt inUse decided portsSound sizesSound linkSound inLimits bag added charge rate capacity byOctets charged cost valid creditAt judged policed portCode
 computed = refl
 
 computed-frame : answers (config-by accountP1 answerP) full (calls frameCases) ≡ verdicts frameCases
-unfolding answers called routed frameCode lengthCode numberAt foundIn leading linkAt accountHeld termsAt inUse decided portsSound sizesSound linkSound inLimits bag added charge rate capacity byOctets charged cost valid creditAt judged policed portCode
+unfolding History.answers called routed frameCode lengthCode numberAt foundIn leading linkAt accountHeld termsAt inUse decided portsSound sizesSound linkSound inLimits bag added charge rate capacity byOctets charged cost valid creditAt judged policed portCode
 computed-frame = refl
 
 -- ---- and from every load
@@ -96,8 +96,8 @@ module _ (s account : List ℕ) (e : readImage s ≡ answerP) (fresh : Fresh s (
   from-any cases =
       let f = loaded-fresh s r accepted in
       ap (λ (g : Config). answers g (stateIn (loading s r .runs)) (calls cases)) (loaded-config s r accepted)
-      ∙ history-verdicts s _ (tables s _ f) (calls cases) _ [] (starts s _ f)
-      ∙ sym (history-verdicts s _ (tables s (runs-of account) fresh) (calls cases) _ [] (starts s (runs-of account) fresh))
+      ∙ history-verdicts s _ f (calls cases)
+      ∙ sym (history-verdicts s (runs-of account) fresh (calls cases))
       ∙ ap (λ (q : Loaded). answers (config-by account q) full (calls cases)) e
 
   -- and leave the same
@@ -116,7 +116,7 @@ module _ (s account : List ℕ) (e : readImage s ≡ answerP) (fresh : Fresh s (
       )
 
 computed-left : final (config-by accountP answerP) full (calls byteCases) ≡ stateOf (100000 ∷ []) ((2 ^ 64 - 1) ∷ [])
-unfolding final called routed frameCode lengthCode numberAt foundIn leading linkAt accountHeld termsAt inUse decided portsSound sizesSound linkSound inLimits bag added charge rate capacity byOctets charged cost valid creditAt judged policed portCode
+unfolding History.final called routed frameCode lengthCode numberAt foundIn leading linkAt accountHeld termsAt inUse decided portsSound sizesSound linkSound inLimits bag added charge rate capacity byOctets charged cost valid creditAt judged policed portCode
 computed-left = refl
 
 terms-p : (imageTerms imageP 0 ≡ termsP byteMode) × (imageTerms frameImageP 0 ≡ termsP frameMode)

@@ -1,18 +1,20 @@
 -- Demand 3's second half: what a frame meant for an account is answered, and what the account then holds, go by the image and by the
 -- frames meant for it. Assumes nothing.
 use Prim.Native.Nat.{ℕ, _<_}
-use mathlib.Core.Bool.{true, false, not, false≢true}
-use mathlib.Core.List.{List, [], _∷_, _++_, map}
-use mathlib.Core.Path.{_≡_, refl, sym, ap, ap₂, _∙_, subst}
+use mathlib.Core.Bool.{true, not, false≢true}
+use mathlib.Core.List.{List, [], _∷_, map}
+use mathlib.Core.Path.{_≡_, sym, ap, _∙_, subst}
 use lib.ListN.{length, getD}
 use lib.Dec.{leb, eqb}
 use borrow.Author.Tests.{eqb-true}
-use Rattle.octets.specs.Choice.{if_then_else_}
-use Rattle.octets.specs.Lists.{only}
-use Rattle.octets.proofs.Lists.{only-take, only-drop, only-more, only-same, only-only}
-use Rattle.octets.proofs.Tests.{split, both}
+use Rattle.lists.specs.Choice.{if_then_else_}
+use Rattle.lists.specs.History.{leftBy}
+use Rattle.lists.specs.Lists.{only}
+use Rattle.lists.proofs.History.{SimulatesPicked, alike}
+use Rattle.lists.proofs.Lists.{only-none, only-take, only-drop, only-only}
+use Rattle.lists.proofs.Tests.{both}
 use Rattle.account.specs.Step.{policed}
-use Rattle.rule.specs.Rule.{rulePast}
+use Rattle.rule.specs.Rule.{ruleOfAccount}
 use Rattle.account.specs.declared.Account.{Account}
 use Rattle.rule.proofs.Rule.{state}
 use Rattle.tables.specs.Rows.{Config}
@@ -24,11 +26,11 @@ use Rattle.loader.specs.Fresh.{Fresh}
 use Rattle.switch.specs.Verdict.{Told, told, withMask}
 use Rattle.switch.specs.declared.Verdict.the-variants.{Refused}
 use Rattle.switch.specs.Call.{State, Call, accountHeld}
-use Rattle.demands.specs.History.{answers, final, configIn, stateIn, answersTo}
+use Rattle.demands.specs.History.{callsOn, final, configIn, stateIn}
 use Rattle.demands.specs.Rule.{imageTerms, imageLink, linkRow, filterCode, names, destinationOctets, meant, passing, arrivalOf, reachedIn}
 use Rattle.demands.specs.Demand3.{Isolation, IsolationOfFreshTables}
-use Rattle.demands.proofs.Tables.{tables}
-use Rattle.demands.proofs.Rule.{link-verdict, verdict-for, account-of, verdicts-after, history-verdicts, history-stands, starts}
+use Rattle.demands.proofs.Tables.{Tables, tables}
+use Rattle.demands.proofs.Rule.{link-verdict, verdict-for, account-of, Stands, one-call, starts, verdictsBy}
 use Rattle.demands.proofs.Words.{loaded-fresh, loaded-config}
 
 module _ (s : List ℕ) (a : ℕ) where
@@ -36,7 +38,7 @@ module _ (s : List ℕ) (a : ℕ) where
   pub reached-meant : (h : List Call) → reachedIn s (only (meant s a) h) a ≡ reachedIn s h a
   unfolding reachedIn
   reached-meant h =
-      ap (λ (c : List Call). rulePast (imageTerms s a) [] (map arrivalOf c))
+      ap (λ (c : List Call). leftBy (ruleOfAccount (imageTerms s a)) [] (map arrivalOf c))
       (only-only (passing s a) (meant s a) (λ f e. both (meant s a f) (eqb (filterCode s f) 0) e .0) h)
 
   -- and the answer to one more that is meant for it
@@ -58,64 +60,32 @@ module _ (s : List ℕ) (a : ℕ) where
       ap (λ (w : Told). if not (eqb (filterCode s f) 0) then told (Refused (filterCode s f)) else w)
       (row-names before after f e (linkRow s f) (both (leb destinationOctets (length (f .octets))) (names s a (linkRow s f)) m .1))
 
-  -- ---- a list of calls
-  to-take : (f : Call) (fs : List Call) (w : Told) (ws : List Told) → meant s a f ≡ true → answersTo (meant s a) (f ∷ fs) (w ∷ ws) ≡ w ∷ answersTo (meant s a) fs ws
-  unfolding answersTo
-  to-take f fs w ws e = simp e
+  -- ---- tables after a past, of which `mine` are the calls meant for the account
+  abbrev Mine : Config → List Call → State → Type 0
+  Mine g mine q = (past : List Call) × (mine ≡ only (meant s a) past) × Stands s g past q
 
-  to-drop : (f : Call) (fs : List Call) (w : Told) (ws : List Told) → meant s a f ≡ false → answersTo (meant s a) (f ∷ fs) (w ∷ ws) ≡ answersTo (meant s a) fs ws
-  unfolding answersTo
-  to-drop f fs w ws e = simp e
+  reached-mine : (mine past : List Call) → mine ≡ only (meant s a) past → reachedIn s past a ≡ reachedIn s mine a
+  reached-mine mine past e = sym (reached-meant past) ∙ ap (λ (c : List Call). reachedIn s c a) (sym e)
 
-  after-cons : (before fs : List Call) (f : Call) → verdicts-after s before (f ∷ fs) ≡ verdict-for s before f ∷ verdicts-after s (before ++ (f ∷ [])) fs
-  unfolding verdicts-after
-  after-cons before fs f = refl
+  mine-holds : (g : Config) (mine : List Call) (q : State) → Mine g mine q → a < readImage s .accounts
+      → accountHeld (g .accounts) q a ≡ account-of s mine a
+  mine-holds g mine q m b = m .2 .is a b ∙ ap (state (imageTerms s a)) (reached-mine mine (m .0) (m .1))
 
-  abbrev mine : List Call → List Call
-  mine h = only (meant s a) h
-
-  alone-none : (before : List Call) → answersTo (meant s a) [] (verdicts-after s before []) ≡ verdicts-after s (mine before) (mine [])
-  unfolding answersTo verdicts-after only
-  alone-none before = refl
-
-  alone : (h before : List Call) → answersTo (meant s a) h (verdicts-after s before h) ≡ verdicts-after s (mine before) (mine h)
-  alone [] before = alone-none before
-  alone (f ∷ fs) before =
-      ap (answersTo (meant s a) (f ∷ fs)) (after-cons before fs f)
-      ∙ split (meant s a f)
-      (λ e.
-      to-take f fs _ _ e
-      ∙ ap₂ _∷_ (meant-verdict before (mine before) f (sym (reached-meant before)) e) (alone fs (before ++ (f ∷ [])) ∙ ap (λ (b : List Call). verdicts-after s b (mine fs)) (only-more (meant s a) before f e))
-      ∙ sym (after-cons (mine before) (mine fs) f)
-      ∙ ap (verdicts-after s (mine before)) (sym (only-take (meant s a) f fs e)))
-      (λ e.
-      to-drop f fs _ _ e
-      ∙ alone fs (before ++ (f ∷ []))
-      ∙ ap (λ (b : List Call). verdicts-after s b (mine fs)) (only-same (meant s a) before f e)
-      ∙ ap (verdicts-after s (mine before)) (sym (only-drop (meant s a) f fs e)))
-
-  -- ---- from tables just loaded
-  pub record ByImage (g : Config) (q : State) (h : List Call) : Type 0 where
-    pub verdicts : answersTo (meant s a) h (answers g q h) ≡ verdicts-after s [] (mine h)
-    pub account : accountHeld (g .accounts) (final g q h) a ≡ account-of s (mine h) a
-
-  mine-none : mine [] ≡ []
-  unfolding only
-  mine-none = refl
-
-  pub by-image : a < readImage s .accounts → (r : Runs) → Fresh s r → (h : List Call) → ByImage (configIn s r) (stateIn r) h
-  by-image b r fresh h =
-      let t = tables s r fresh in
-      let st = starts s r fresh in
+  -- the calls meant for the account are answered by these alone
+  alone : (g : Config) → Tables s g → (h : List Call) → SimulatesPicked (callsOn g) (verdictsBy s) (meant s a) (Mine g) h
+  alone g t h =
       record {
-        verdicts =
-            ap (answersTo (meant s a) h) (history-verdicts s (configIn s r) t h (stateIn r) [] st)
-            ∙ alone h []
-            ∙ ap (λ (c : List Call). verdicts-after s c (mine h)) mine-none;
-        account =
-            history-stands s (configIn s r) t h (stateIn r) [] st .is a b
-            ∙ ap (state (imageTerms s a)) (sym (reached-meant h));
+        picked = λ f _ e mine q m.
+            let o = one-call s g t (m .0) q (m .2) f in (
+              o .verdict ∙ meant-verdict (m .0) mine f (reached-mine mine (m .0) (m .1)) e,
+              (f ∷ m .0, ap (_∷_ f) (m .1) ∙ sym (only-take (meant s a) f (m .0) e), o .stands),
+            );
+        others = λ f _ e mine q m.
+            (f ∷ m .0, m .1 ∙ sym (only-drop (meant s a) f (m .0) e), one-call s g t (m .0) q (m .2) f .stands);
       }
+
+  mine-starts : (r : Runs) → Fresh s r → Mine (configIn s r) [] (stateIn r)
+  mine-starts r fresh = ([], sym (only-none (meant s a)), starts s r fresh)
 
 -- what an account holds
 holds : (accounts : List ℕ) (q : State) (a : ℕ) (x : Account) → accountHeld accounts q a ≡ x → (getD (q .credits) a 0 ≡ x .credit) × (getD (q .lasts) a 0 ≡ x .last)
@@ -124,15 +94,13 @@ holds accounts q a x e = (ap (λ (y : Account). y .credit) e, ap (λ (y : Accoun
 
 pub isolation-of-fresh-tables : IsolationOfFreshTables
 isolation-of-fresh-tables s a b r fresh h r′ fresh′ h′ e =
-    let p = by-image s a b r fresh h in
-    let q = by-image s a b r′ fresh′ h′ in
-    let x = holds (r .accounts) (final (configIn s r) (stateIn r) h) a (account-of s (only (meant s a) h′) a) (p .account ∙ ap (λ (c : List Call). account-of s c a) e) in
-    let y = holds (r′ .accounts) (final (configIn s r′) (stateIn r′) h′) a (account-of s (only (meant s a) h′) a) (q .account) in
-    record {
-      verdicts = p .verdicts ∙ ap (verdicts-after s []) e ∙ sym (q .verdicts);
-      credit = x .0 ∙ sym (y .0);
-      last = x .1 ∙ sym (y .1);
-    }
+    let g : Config = configIn s r in
+    let g′ : Config = configIn s r′ in
+    let z = alike h h′ (alone s a g (tables s r fresh) h) (alone s a g′ (tables s r′ fresh′) h′) e
+    [] (stateIn r) (mine-starts s a r fresh) (stateIn r′) (mine-starts s a r′ fresh′) in
+    let x = holds (r .accounts) (final g (stateIn r) h) a _ (mine-holds s a g _ _ (z .1) b) in
+    let y = holds (r′ .accounts) (final g′ (stateIn r′) h′) a _ (mine-holds s a g′ _ _ (z .2) b) in
+    record { verdicts = z .0; credit = x .0 ∙ sym (y .0); last = x .1 ∙ sym (y .1) }
 
 pub isolation : Isolation
 isolation s a b r z h r′ z′ h′ e =

@@ -2,7 +2,6 @@ pub mod Bench
 pub mod Demands
 pub mod Filter
 pub mod Isolation
-pub mod Lists
 pub mod Rule
 pub mod Tables
 pub mod Words

@@ -2,22 +2,26 @@
 -- the rule, and with data that the image and those frames settle. Assumes nothing.
 use Prim.Native.Nat.{ℕ, _+_, _≤_, _<_}
 use mathlib.Core.Bool.{true, false, not}
-use mathlib.Core.List.{List, [], _∷_, _++_, map, map-append, append-nil}
-use mathlib.Core.Path.{_≡_, refl, sym, ap, ap₂, _∙_, subst}
+use mathlib.Core.List.{List, [], _∷_, map, reverse}
+use mathlib.Core.Path.{_≡_, refl, sym, ap, _∙_, subst}
 use native.Mathlib.Omega.{arith}
 use lib.ListN.{length, getD, set, length-set}
-use lib.Seq.{append-snoc, getD-set-same, getD-set-other}
+use lib.Seq.{getD-set-same, getD-set-other}
 use lib.Dec.{eqb}
 use borrow.Author.Tests.{eq-eqb, ne-eqb, eqb-true, eqb-false}
-use Rattle.octets.specs.Choice.{if_then_else_}
-use Rattle.octets.specs.Lists.{only}
-use Rattle.octets.proofs.Lists.{only-more, only-same}
-use Rattle.octets.proofs.Tests.{split}
+use Rattle.lists.specs.Choice.{if_then_else_}
+use Rattle.lists.specs.History
+use Rattle.lists.specs.History.{Machine, leftBy, byCalls}
+use Rattle.lists.specs.Lists.{only}
+use Rattle.lists.proofs.History.{Simulates, simulated-answers, simulated-final, same-answers, final-calls}
+use Rattle.lists.proofs.Lists.{only-take, only-drop}
+use Rattle.lists.proofs.Tests.{split}
 use Rattle.frame.specs.Frame.{lengthCode}
 use Rattle.account.specs.Terms.{Terms}
 use Rattle.account.specs.Account.{accountOf, valid}
 use Rattle.account.specs.Step.{policed}
-use Rattle.rule.specs.Rule.{ruleArrived, rulePast}
+use Rattle.rule.specs.Bucket.{Reached}
+use Rattle.rule.specs.Rule.{ruleArrived, ruleOfAccount}
 use Rattle.account.specs.declared.Account.{Account}
 use Rattle.rule.proofs.Rule.{Sound, state, Agree, step-arrived, state-valid, arrival, state-loaded}
 use Rattle.account.proofs.Step.{policed-keeps}
@@ -35,65 +39,65 @@ use Rattle.switch.specs.Call.{State, stateOf, Call, After, accountsInUse, inUse
 use Rattle.switch.specs.declared.Verdict.the-variants.{Refused}
 use Rattle.filter.proofs.Filter.{frame-zero}
 use Rattle.switch.proofs.Call.{held-again, decided-refused, decided-policed}
-use Rattle.demands.specs.History.{answers, final, codes, configIn, stateIn}
-use Rattle.demands.specs.Rule.{imageTerms, imageLink, linkRow, filterCode, passing, arrivalOf, reachedIn, ruleCode, ruleCodesAfter}
+use Rattle.demands.specs.History.{callsOn, answers, final, configIn, stateIn}
+use Rattle.demands.specs.Rule.{imageTerms, imageLink, linkRow, filterCode, passing, arrivalOf, reachedIn, ruleCode, ruleOfCalls}
 use Rattle.demands.specs.Demand3.{RuleOfFreshTables}
-use Rattle.demands.proofs.Lists.{rule-snoc}
 use Rattle.demands.proofs.Tables.{Tables, tables, long, starts-loaded}
 use Rattle.demands.proofs.Filter.{frame-code, filter-frame, filter-unknown, filter-link, by-filter, passes-none, passes-link, call-frame, call-nowhere, call-link}
 
 -- ---- the frames that reached an account, with one call more
-module _ (s : List ℕ) (before : List Call) (f : Call) (a : ℕ) where
-  pub reached-same : passing s a f ≡ false → reachedIn s (before ++ (f ∷ [])) a ≡ reachedIn s before a
-  unfolding reachedIn
-  reached-same e = ap (λ (h : List Call). rulePast (imageTerms s a) [] (map arrivalOf h)) (only-same (passing s a) before f e)
+module _ (s : List ℕ) (past : List Call) (f : Call) (a : ℕ) where
+  abbrev reached-by : List Call → List Reached
+  reached-by own = leftBy (ruleOfAccount (imageTerms s a)) [] (map arrivalOf own)
 
-  pub reached-more : passing s a f ≡ true → lengthCode (length (f .octets)) ≡ 0
-      → reachedIn s (before ++ (f ∷ [])) a ≡ ruleArrived (imageTerms s a) (reachedIn s before a) (length (f .octets)) (f .time) .past
+  reached-same : passing s a f ≡ false → reachedIn s (f ∷ past) a ≡ reachedIn s past a
   unfolding reachedIn
+  reached-same e = ap reached-by (only-drop (passing s a) f past e)
+
+  reached-more : passing s a f ≡ true → lengthCode (length (f .octets)) ≡ 0
+      → reachedIn s (f ∷ past) a ≡ ruleArrived (imageTerms s a) (reachedIn s past a) (length (f .octets)) (f .time) .past
+  unfolding reachedIn leftBy
   reached-more e z =
-      ap (λ (h : List Call). rulePast (imageTerms s a) [] (map arrivalOf h)) (only-more (passing s a) before f e)
-      ∙ ap (rulePast (imageTerms s a) []) (map-append arrivalOf (only (passing s a) before) (f ∷ []))
-      ∙ rule-snoc (imageTerms s a) (map arrivalOf (only (passing s a) before)) (arrivalOf f) []
+      ap reached-by (only-take (passing s a) f past e)
       ∙ ap (λ r. r .past) (step-arrived (imageTerms s a) _ (length (f .octets)) (f .time) z)
 
--- ---- the answer to a frame behind the calls `before`, with its data
+-- ---- the answer to a frame after a past, with its data
 abbrev pub account-of : List ℕ → List Call → ℕ → Account
-account-of s before a = state (imageTerms s a) (reachedIn s before a)
+account-of s past a = state (imageTerms s a) (reachedIn s past a)
 
 abbrev pub link-verdict : List ℕ → List Call → Call → Found → Told
-link-verdict s before f Nowhere = told (Refused (filterCode s f))
-link-verdict s before f (At j) = withMask (imageLink s j .mask) (policed (account-of s before (imageLink s j .account)) (length (f .octets)) (f .time) .says)
+link-verdict s past f Nowhere = told (Refused (filterCode s f))
+link-verdict s past f (At j) = withMask (imageLink s j .mask) (policed (account-of s past (imageLink s j .account)) (length (f .octets)) (f .time) .says)
 
 unfoldable pub verdict-for : List ℕ → List Call → Call → Told
-verdict-for s before f = if not (eqb (filterCode s f) 0) then told (Refused (filterCode s f)) else link-verdict s before f (linkRow s f)
+verdict-for s past f = if not (eqb (filterCode s f) 0) then told (Refused (filterCode s f)) else link-verdict s past f (linkRow s f)
 
 -- ---- each account is the one that the frames which reached it leave
-pub record Stands (s : List ℕ) (g : Config) (q : State) (before : List Call) : Type 0 where
+pub record Stands (s : List ℕ) (g : Config) (past : List Call) (q : State) : Type 0 where
   pub credit-room : readImage s .accounts ≤ length (q .credits)
   pub last-room : readImage s .accounts ≤ length (q .lasts)
-  pub is : (i : ℕ) → i < readImage s .accounts → accountHeld (g .accounts) q i ≡ account-of s before i
-  pub sound : (i : ℕ) → i < readImage s .accounts → Sound (imageTerms s i) (reachedIn s before i)
+  pub is : (i : ℕ) → i < readImage s .accounts → accountHeld (g .accounts) q i ≡ account-of s past i
+  pub sound : (i : ℕ) → i < readImage s .accounts → Sound (imageTerms s i) (reachedIn s past i)
 
 -- what a call answers and leaves, by the rule
-pub record Ruled (s : List ℕ) (g : Config) (before : List Call) (f : Call) (r : After) : Type 0 where
-  pub code : r .says .code ≡ ruleCode s before f
-  pub verdict : r .says ≡ verdict-for s before f
-  pub stands : Stands s g (r .state) (before ++ (f ∷ []))
+pub record Ruled (s : List ℕ) (g : Config) (past : List Call) (f : Call) (r : After) : Type 0 where
+  pub code : r .says .code ≡ ruleCode s past f
+  pub verdict : r .says ≡ verdict-for s past f
+  pub stands : Stands s g (f ∷ past) (r .state)
 
 -- ---- one call
-module _ (s : List ℕ) (g : Config) (t : Tables s g) (q : State) (before : List Call) (st : Stands s g q before) (f : Call) where
+module _ (s : List ℕ) (g : Config) (t : Tables s g) (past : List Call) (q : State) (st : Stands s g past q) (f : Call) where
   -- a frame that passes to no account changes none
-  stays : ((a : ℕ) → passing s a f ≡ false) → Stands s g q (before ++ (f ∷ []))
+  stays : ((a : ℕ) → passing s a f ≡ false) → Stands s g (f ∷ past) q
   stays h =
       record {
         credit-room = st .credit-room;
         last-room = st .last-room;
-        is = λ i b. st .is i b ∙ ap (state (imageTerms s i)) (sym (reached-same s before f i (h i)));
-        sound = λ i b. subst (Sound (imageTerms s i)) (sym (reached-same s before f i (h i))) (st .sound i b);
+        is = λ i b. st .is i b ∙ ap (state (imageTerms s i)) (sym (reached-same s past f i (h i)));
+        sound = λ i b. subst (Sound (imageTerms s i)) (sym (reached-same s past f i (h i))) (st .sound i b);
       }
 
-  refused-by : (c : ℕ) → filterCode s f ≡ c → (c ≡ 0 → ⊥) → Ruled s g before f (refusedWith c q)
+  refused-by : (c : ℕ) → filterCode s f ≡ c → (c ≡ 0 → ⊥) → Ruled s g past f (refusedWith c q)
   unfolding ruleCode verdict-for
   refused-by c e n =
       let z : eqb (filterCode s f) 0 ≡ false = ne-eqb (filterCode s f) 0 (λ d. n (sym e ∙ d)) in
@@ -128,24 +132,24 @@ module _ (s : List ℕ) (g : Config) (t : Tables s g) (q : State) (before : List
 
     -- the link and the account are sound: 10 does not arise
     abbrev account : Account
-    account = account-of s before a
+    account = account-of s past a
 
     valid-account : valid account ≡ true
-    valid-account = state-valid (imageTerms s a) (reachedIn s before a) (st .sound a known) (t .limits a known)
+    valid-account = state-valid (imageTerms s a) (reachedIn s past a) (st .sound a known) (t .limits a known)
 
     decided-is : (d : Decided) → decided link (readImage s .accounts) account n (f .port) (f .time) ≡ d
         → onLink g q f link ≡ stored q a d
     decided-is d r =
         ap (stored q a) ((λ k. decided link (all-used k) (st .is a known k) n (f .port) (f .time)) ∙ r)
 
-    over-refused : (portCode link n (f .port) ≡ 0 → ⊥) → Ruled s g before f (onLink g q f link)
+    over-refused : (portCode link n (f .port) ≡ 0 → ⊥) → Ruled s g past f (onLink g q f link)
     over-refused m =
         let c : filterCode s f ≡ portCode link n (f .port) = filter-link s f z j e in
         let d = decided-is (kept (portCode link n (f .port)) account) (decided-refused link (readImage s .accounts) account n (f .port) (f .time) (t .rules j h) valid-account m) in
         let p : account ≡ accountHeld (g .accounts) q a = sym (st .is a known) in
         let k : stateOf (set (q .credits) a (account .credit)) (set (q .lasts) a (account .last)) ≡ q =
         (λ i. stateOf (set (q .credits) a (p i .credit)) (set (q .lasts) a (p i .last))) ∙ held-again (g .accounts) q a in
-        subst (Ruled s g before f) (sym (d ∙ (λ i. record { says = told (Refused (portCode link n (f .port))); state = k i })))
+        subst (Ruled s g past f) (sym (d ∙ (λ i. record { says = told (Refused (portCode link n (f .port))); state = k i })))
         (refused-by (portCode link n (f .port)) c m)
 
     -- the frame reaches the account, or is late
@@ -156,8 +160,8 @@ module _ (s : List ℕ) (g : Config) (t : Tables s g) (q : State) (before : List
       right-size : lengthCode n ≡ 0
       right-size = frame-zero (readImage s .constant) (f .octets) z
 
-      agree : Agree (imageTerms s a) (policed account n (f .time)) (ruleArrived (imageTerms s a) (reachedIn s before a) n (f .time))
-      agree = arrival (imageTerms s a) (reachedIn s before a) (st .sound a known) (t .limits a known) n (f .time) right-size
+      agree : Agree (imageTerms s a) (policed account n (f .time)) (ruleArrived (imageTerms s a) (reachedIn s past a) n (f .time))
+      agree = arrival (imageTerms s a) (reachedIn s past a) (st .sound a known) (t .limits a known) n (f .time) right-size
 
       abbrev next : Account
       next = policed account n (f .time) .account
@@ -189,30 +193,30 @@ module _ (s : List ℕ) (g : Config) (t : Tables s g) (q : State) (before : List
       passes : (i : ℕ) → passing s i f ≡ eqb a i
       passes i = passes-link s f i j z e zero-code
 
-      past-same : reachedIn s (before ++ (f ∷ [])) a ≡ ruleArrived (imageTerms s a) (reachedIn s before a) n (f .time) .past
-      past-same = reached-more s before f a (passes a ∙ eq-eqb a a refl) right-size
+      past-same : reachedIn s (f ∷ past) a ≡ ruleArrived (imageTerms s a) (reachedIn s past a) n (f .time) .past
+      past-same = reached-more s past f a (passes a ∙ eq-eqb a a refl) right-size
 
-      past-other : (i : ℕ) → eqb a i ≡ false → reachedIn s (before ++ (f ∷ [])) i ≡ reachedIn s before i
-      past-other i d = reached-same s before f i (passes i ∙ d)
+      past-other : (i : ℕ) → eqb a i ≡ false → reachedIn s (f ∷ past) i ≡ reachedIn s past i
+      past-other i d = reached-same s past f i (passes i ∙ d)
 
-      next-is : (i : ℕ) → i < readImage s .accounts → accountHeld (g .accounts) after i ≡ account-of s (before ++ (f ∷ [])) i
+      next-is : (i : ℕ) → i < readImage s .accounts → accountHeld (g .accounts) after i ≡ account-of s (f ∷ past) i
       next-is i b =
           split (eqb a i)
           (λ d.
-          subst (λ (k : ℕ). accountHeld (g .accounts) after k ≡ account-of s (before ++ (f ∷ [])) k) (eqb-true a i d)
+          subst (λ (k : ℕ). accountHeld (g .accounts) after k ≡ account-of s (f ∷ past) k) (eqb-true a i d)
           (held-same ∙ agree .same-account ∙ ap (state (imageTerms s a)) (sym past-same)))
           (λ d.
           held-other i b (λ k. eqb-false a i d (sym k)) ∙ st .is i b ∙ ap (state (imageTerms s i)) (sym (past-other i d)))
 
-      next-sound : (i : ℕ) → i < readImage s .accounts → Sound (imageTerms s i) (reachedIn s (before ++ (f ∷ [])) i)
+      next-sound : (i : ℕ) → i < readImage s .accounts → Sound (imageTerms s i) (reachedIn s (f ∷ past) i)
       next-sound i b =
           split (eqb a i)
           (λ d.
-          subst (λ (k : ℕ). Sound (imageTerms s k) (reachedIn s (before ++ (f ∷ [])) k)) (eqb-true a i d)
+          subst (λ (k : ℕ). Sound (imageTerms s k) (reachedIn s (f ∷ past) k)) (eqb-true a i d)
           (subst (Sound (imageTerms s a)) (sym past-same) (agree .sound)))
           (λ d. subst (Sound (imageTerms s i)) (sym (past-other i d)) (st .sound i b))
 
-      next-stands : Stands s g after (before ++ (f ∷ []))
+      next-stands : Stands s g (f ∷ past) after
       next-stands =
           record {
             credit-room = rw (length-set (q .credits) a (next .credit)) (st .credit-room);
@@ -221,63 +225,36 @@ module _ (s : List ℕ) (g : Config) (t : Tables s g) (q : State) (before : List
             sound = next-sound;
           }
 
-      code-is : policed account n (f .time) .says .code ≡ ruleCode s before f
+      code-is : policed account n (f .time) .says .code ≡ ruleCode s past f
       unfolding ruleCode
       code-is = rw e (simp (eq-eqb (filterCode s f) 0 zero-code) (agree .same-code))
 
-      verdict-is : withMask (link .mask) (policed account n (f .time) .says) ≡ verdict-for s before f
+      verdict-is : withMask (link .mask) (policed account n (f .time) .says) ≡ verdict-for s past f
       unfolding verdict-for
       verdict-is = rw e (simp (eq-eqb (filterCode s f) 0 zero-code))
 
-      over-policed : Ruled s g before f (onLink g q f link)
+      over-policed : Ruled s g past f (onLink g q f link)
       over-policed =
-          subst (Ruled s g before f)
+          subst (Ruled s g past f)
           (sym (decided-is _ (decided-policed link (readImage s .accounts) account n (f .port) (f .time) (t .rules j h) valid-account m)))
           (record { code = code-is; verdict = verdict-is; stands = next-stands })
 
-    over : Ruled s g before f (onLink g q f link)
+    over : Ruled s g past f (onLink g q f link)
     over = split (eqb (portCode link n (f .port)) 0) (λ m. over-policed (eqb-true _ _ m)) (λ m. over-refused (eqb-false _ _ m))
 
-  pub one-call : Ruled s g before f (called g q f)
+  pub one-call : Ruled s g past f (called g q f)
   one-call =
       by-filter s f
-      (λ m. subst (Ruled s g before f) (sym (call-frame s g t q f m)) (refused-by (frame-code s f) (filter-frame s f m) m))
-      (λ z e. subst (Ruled s g before f) (sym (call-nowhere s g t q f z e)) (refused-by 4 (filter-unknown s f z e) (λ d. omega arith)))
-      (λ z j e h. subst (Ruled s g before f) (sym (call-link s g t q f z j e h)) (over j h z e))
-
--- ---- a list of calls
-unfoldable pub verdicts-after : List ℕ → List Call → List Call → List Told
-verdicts-after s before [] = []
-verdicts-after s before (f ∷ fs) = verdict-for s before f ∷ verdicts-after s (before ++ (f ∷ [])) fs
-
-module _ (s : List ℕ) (g : Config) (t : Tables s g) where
-  pub history-codes : (h : List Call) (q : State) (before : List Call) → Stands s g q before → codes (answers g q h) ≡ ruleCodesAfter s before h
-  unfolding answers ruleCodesAfter
-  history-codes [] q before st = refl
-  history-codes (f ∷ fs) q before st =
-      let o = one-call s g t q before st f in
-      ap₂ _∷_ (o .code) (history-codes fs (called g q f .state) (before ++ (f ∷ [])) (o .stands))
-
-  pub history-verdicts : (h : List Call) (q : State) (before : List Call) → Stands s g q before → answers g q h ≡ verdicts-after s before h
-  unfolding answers verdicts-after
-  history-verdicts [] q before st = refl
-  history-verdicts (f ∷ fs) q before st =
-      let o = one-call s g t q before st f in
-      ap₂ _∷_ (o .verdict) (history-verdicts fs (called g q f .state) (before ++ (f ∷ [])) (o .stands))
-
-  pub history-stands : (h : List Call) (q : State) (before : List Call) → Stands s g q before → Stands s g (final g q h) (before ++ h)
-  unfolding final
-  history-stands [] q before st = subst (Stands s g q) (sym (append-nil before)) st
-  history-stands (f ∷ fs) q before st =
-      subst (Stands s g (final g (called g q f .state) fs)) (append-snoc before f fs)
-      (history-stands fs (called g q f .state) (before ++ (f ∷ [])) (one-call s g t q before st f .stands))
+      (λ m. subst (Ruled s g past f) (sym (call-frame s g t q f m)) (refused-by (frame-code s f) (filter-frame s f m) m))
+      (λ z e. subst (Ruled s g past f) (sym (call-nowhere s g t q f z e)) (refused-by 4 (filter-unknown s f z e) (λ d. omega arith)))
+      (λ z j e h. subst (Ruled s g past f) (sym (call-link s g t q f z j e h)) (over j h z e))
 
 -- ---- from tables just loaded
 reached-none : (s : List ℕ) (a : ℕ) → reachedIn s [] a ≡ []
-unfolding reachedIn only rulePast
+unfolding reachedIn only leftBy
 reached-none s a = refl
 
-pub starts : (s : List ℕ) (r : Runs) → Fresh s r → Stands s (configIn s r) (stateIn r) []
+pub starts : (s : List ℕ) (r : Runs) → Fresh s r → Stands s (configIn s r) [] (stateIn r)
 starts s r fresh =
     record {
       credit-room = long s r fresh .credits-long;
@@ -286,5 +263,27 @@ starts s r fresh =
       sound = λ i b. subst (Sound (imageTerms s i)) (sym (reached-none s i)) tt;
     }
 
+-- ---- a list of calls on them
+abbrev pub verdictsBy : List ℕ → Machine (List Call) Call Told
+verdictsBy s = byCalls (verdict-for s)
+
+module _ (s : List ℕ) (r : Runs) (fresh : Fresh s r) (h : List Call) where
+  abbrev g : Config
+  g = configIn s r
+
+  each-code : Simulates (callsOn g) (ruleOfCalls s) (λ w. w .code) (Stands s g) h
+  each-code = record { each = λ f _ past q st. let o = one-call s g (tables s r fresh) past q st f in (o .code, o .stands) }
+
+  each-verdict : Simulates (callsOn g) (verdictsBy s) (λ w. w) (Stands s g) h
+  each-verdict = record { each = λ f _ past q st. let o = one-call s g (tables s r fresh) past q st f in (o .verdict, o .stands) }
+
+  pub history-verdicts : answers g (stateIn r) h ≡ History.answers (verdictsBy s) [] h
+  history-verdicts = same-answers h each-verdict [] (stateIn r) (starts s r fresh)
+
+  pub history-stands : Stands s g (reverse h) (final g (stateIn r) h)
+  history-stands =
+      subst (λ (past : List Call). Stands s g past (final g (stateIn r) h)) (final-calls (ruleCode s) h)
+      (simulated-final h each-code [] (stateIn r) (starts s r fresh))
+
 pub rule-of-fresh-tables : RuleOfFreshTables
-rule-of-fresh-tables s r fresh h = history-codes s (configIn s r) (tables s r fresh) h (stateIn r) [] (starts s r fresh)
+rule-of-fresh-tables s r fresh h = simulated-answers h (each-code s r fresh h) [] (stateIn r) (starts s r fresh)

@@ -1,13 +1,13 @@
 -- Demand 3's first half from loading itself, in words, and that 10 never arises. Assumes nothing.
 use Prim.Native.Nat.{ℕ, _≤_, _<_}
-use mathlib.Core.List.{List, [], _∷_, _++_, List·Memᴰ, List·Memᴰ·not-nil, List·Memᴰ·cases-cons}
-use mathlib.Core.Logic.{⊎-elim}
+use mathlib.Core.List.{List, [], reverse, List·Memᴰ}
 use mathlib.Core.Path.{_≡_, ap, _∙_, subst}
 use native.Mathlib.Omega.{arith}
 use lib.ListN.{length}
 use lib.Dec.{ltb, eqb}
 use borrow.Author.Tests.{lt-ltb, eq-eqb, ne-eqb}
-use Rattle.octets.proofs.Tests.{split}
+use Rattle.lists.proofs.History.{answers-each}
+use Rattle.lists.proofs.Tests.{split}
 use Rattle.account.specs.Terms.{Terms, cost}
 use Rattle.rule.specs.Bucket.{Reached, lastTime, ruleHolds}
 use Rattle.rule.specs.Rule.{allowance, ruleArrived}
@@ -22,11 +22,11 @@ use Rattle.trips.specs.Trips.{loadedTables}
 use Rattle.switch.specs.Call.{Call, called}
 use Rattle.filter.proofs.Filter.{frame-code-high, port-code-high}
 use Rattle.demands.specs.History.{answers, final, codes, configIn, stateIn}
-use Rattle.demands.specs.Rule.{imageTerms, imageLink, linkRow, filterCode, reachedIn, accountNamed, ruleCode, ruleCodesAfter}
+use Rattle.demands.specs.Rule.{imageTerms, imageLink, linkRow, filterCode, reachedIn, accountNamed, ruleCode, ruleOfCalls}
 use Rattle.demands.specs.Demand3.{RuleOfHistory, RuleInWords, OthersInWords, TenNever}
 use Rattle.demands.proofs.Tables.{tables}
 use Rattle.demands.proofs.Filter.{filter-frame, filter-unknown, filter-link, by-filter}
-use Rattle.demands.proofs.Rule.{one-call, history-stands, starts, rule-of-fresh-tables}
+use Rattle.demands.proofs.Rule.{Ruled, one-call, history-stands, rule-of-fresh-tables}
 
 -- ---- from loading
 module _ (s : List ℕ) (r : Runs) (z : loading s r .answer .code ≡ 0) where
@@ -44,19 +44,23 @@ rule-of-history s r z h =
     ∙ rule-of-fresh-tables s (loading s r .runs) (loaded-fresh s r z) h
 
 -- ---- in words
-code-arrived : (s : List ℕ) (before : List Call) (f : Call) → filterCode s f ≡ 0
-    → ruleCode s before f ≡ ruleArrived (imageTerms s (accountNamed s (linkRow s f))) (reachedIn s before (accountNamed s (linkRow s f))) (length (f .octets)) (f .time) .code
+next-call : (s : List ℕ) (r : Runs) → Fresh s r → (before : List Call) (f : Call)
+    → Ruled s (configIn s r) (reverse before) f (called (configIn s r) (final (configIn s r) (stateIn r) before) f)
+next-call s r fresh before f =
+    one-call s (configIn s r) (tables s r fresh) (reverse before) (final (configIn s r) (stateIn r) before)
+    (history-stands s r fresh before) f
+
+code-arrived : (s : List ℕ) (past : List Call) (f : Call) → filterCode s f ≡ 0
+    → ruleCode s past f ≡ ruleArrived (imageTerms s (accountNamed s (linkRow s f))) (reachedIn s past (accountNamed s (linkRow s f))) (length (f .octets)) (f .time) .code
 unfolding ruleCode
-code-arrived s before f z = simp (eq-eqb _ _ z)
+code-arrived s past f z = simp (eq-eqb _ _ z)
 
 pub rule-in-words : RuleInWords
 rule-in-words s r fresh before f z h =
-    let g : Config = configIn s r in
     let a : ℕ = accountNamed s (linkRow s f) in
-    let st = history-stands s g (tables s r fresh) before (stateIn r) [] (starts s r fresh) in
-    let o = one-call s g (tables s r fresh) (final g (stateIn r) before) before st f in
-    let w = in-words (imageTerms s a) (reachedIn s before a) (length (f .octets)) (f .time) h
-    (called g (final g (stateIn r) before) f .says .code) (o .code ∙ code-arrived s before f z) in
+    let w = in-words (imageTerms s a) (reachedIn s (reverse before) a) (length (f .octets)) (f .time) h
+    (called (configIn s r) (final (configIn s r) (stateIn r) before) f .says .code)
+    (next-call s r fresh before f .code ∙ code-arrived s (reverse before) f z) in
     record { exactly = w .0; otherwise = w .1 }
 
 -- any other frame: the filter's code, or late
@@ -64,16 +68,16 @@ arrived-late : (p : Terms) (past : List Reached) (n t : ℕ) → t < lastTime pa
 unfolding ruleArrived
 arrived-late p past n t h = simp (lt-ltb _ _ h)
 
-code-filtered : (s : List ℕ) (before : List Call) (f : Call) → (filterCode s f ≡ 0 → ⊥) → ruleCode s before f ≡ filterCode s f
+code-filtered : (s : List ℕ) (past : List Call) (f : Call) → (filterCode s f ≡ 0 → ⊥) → ruleCode s past f ≡ filterCode s f
 unfolding ruleCode
-code-filtered s before f h = simp (ne-eqb _ _ h)
+code-filtered s past f h = simp (ne-eqb _ _ h)
 
 pub others-in-words : OthersInWords
 others-in-words s r fresh before f =
-    let g : Config = configIn s r in
-    let st = history-stands s g (tables s r fresh) before (stateIn r) [] (starts s r fresh) in
-    let o = one-call s g (tables s r fresh) (final g (stateIn r) before) before st f in
-    (λ h. o .code ∙ code-filtered s before f h, λ z h. o .code ∙ code-arrived s before f z ∙ arrived-late _ _ _ _ h)
+    let o = next-call s r fresh before f in (
+      λ h. o .code ∙ code-filtered s (reverse before) f h,
+      λ z h. o .code ∙ code-arrived s (reverse before) f z ∙ arrived-late _ _ _ _ h,
+    )
 
 -- ---- 10 never
 filter-code-high : (s : List ℕ) (f : Call) → filterCode s f ≤ 7
@@ -90,18 +94,14 @@ arrived-high p past n t =
     (λ e. simp e (omega arith))
     (λ e. split (ruleHolds (allowance p) t (cost p n) past) (λ d. simp (e, d) (omega arith)) (λ d. simp (e, d) (omega arith)))
 
-rule-code-high : (s : List ℕ) (before : List Call) (f : Call) → ruleCode s before f ≤ 9
+rule-code-high : (s : List ℕ) (past : List Call) (f : Call) → ruleCode s past f ≤ 9
 unfolding ruleCode
-rule-code-high s before f =
+rule-code-high s past f =
     split (eqb (filterCode s f) 0)
     (λ e. simp e (arrived-high _ _ _ _))
     (λ e. let k = filter-code-high s f in simp e (omega arith))
 
-codes-high : (s : List ℕ) (h before : List Call) (c : ℕ) → List·Memᴰ c (ruleCodesAfter s before h) → c ≤ 9
-unfolding ruleCodesAfter
-codes-high s [] before c m = absurd (List·Memᴰ·not-nil m)
-codes-high s (f ∷ fs) before c m =
-    ⊎-elim (λ e. let k = rule-code-high s before f in omega arith) (codes-high s fs (before ++ (f ∷ [])) c) (List·Memᴰ·cases-cons m)
-
 pub ten-never : TenNever
-ten-never s r fresh h c m = codes-high s h [] c (subst (List·Memᴰ c) (rule-of-fresh-tables s r fresh h) m)
+ten-never s r fresh h c i =
+    answers-each (ruleOfCalls s) (λ (d : ℕ). d ≤ 9) (rule-code-high s) h [] c
+    (subst (List·Memᴰ c) (rule-of-fresh-tables s r fresh h) i)

@@ -2,11 +2,11 @@
 -- traffic. Proved in proofs/.
 use Prim.Native.Nat.{ℕ, _≤_, _<_}
 use mathlib.Core.Bool.{true, false}
-use mathlib.Core.List.{List, [], _∷_, map, List·Memᴰ}
+use mathlib.Core.List.{List, [], _∷_, map, reverse, List·Memᴰ}
 use mathlib.Core.Logic.{_↔_}
 use mathlib.Core.Path.{_≡_}
 use lib.ListN.{length, getD, set, take, replicate}
-use Rattle.octets.specs.Lists.{only}
+use Rattle.lists.specs.Lists.{only, answersTo}
 use Rattle.account.specs.Terms.{cost}
 use Rattle.rule.specs.Bucket.{lastTime, FromEach, RuleRead}
 use Rattle.rule.specs.Rule.{allowance, AllowanceByMode, RuleOfSteps, StepsInWords}
@@ -17,7 +17,7 @@ use Rattle.loader.specs.Loading.{Runs, loading}
 use Rattle.loader.specs.Fresh.{Fresh}
 use Rattle.trips.specs.Trips.{loadedTables}
 use Rattle.switch.specs.Call.{State, Call, callOf, called}
-use Rattle.demands.specs.History.{answers, final, codes, configIn, stateIn, answersTo}
+use Rattle.demands.specs.History.{answers, final, codes, configIn, stateIn}
 use Rattle.demands.specs.Rule.{imageTerms, linkRow, accountNamed, filterCode, meant, reachedIn, ruleCodes}
 
 -- ---- first half
@@ -33,25 +33,26 @@ RuleOfHistory =
 abbrev pub RuleOfFreshTables : Type 0
 RuleOfFreshTables = (s : List ℕ) (r : Runs) → Fresh s r → (h : List Call) → codes (answers (configIn s r) (stateIn r) h) ≡ ruleCodes s h
 
--- in words, for a frame f on account a behind the calls `before`, and the code that it got: 0 exactly where, from itself and from each
--- frame that reached the account earlier, the costs forwarded since and its own are within the allowance; else 9
-pub record Judged (s : List ℕ) (before : List Call) (f : Call) (a code : ℕ) : Type 0 where
-  pub exactly : (code ≡ 0) ↔ FromEach (allowance (imageTerms s a)) (f .time) (cost (imageTerms s a) (length (f .octets))) (reachedIn s before a)
-  pub otherwise : (FromEach (allowance (imageTerms s a)) (f .time) (cost (imageTerms s a) (length (f .octets))) (reachedIn s before a) → ⊥) → code ≡ 9
+-- in words, for a frame f on account a after a past, and the code that it got: 0 exactly where, from itself and from each frame that
+-- reached the account earlier, the costs forwarded since and its own are within the allowance; else 9
+pub record Judged (s : List ℕ) (past : List Call) (f : Call) (a code : ℕ) : Type 0 where
+  pub exactly : (code ≡ 0) ↔ FromEach (allowance (imageTerms s a)) (f .time) (cost (imageTerms s a) (length (f .octets))) (reachedIn s past a)
+  pub otherwise : (FromEach (allowance (imageTerms s a)) (f .time) (cost (imageTerms s a) (length (f .octets))) (reachedIn s past a) → ⊥) → code ≡ 9
 
--- of every frame that reaches its account: no code before 8 fits it, and no frame that reached the account is later
+-- of every frame that reaches its account after the calls `before`: no code before 8 fits it, and no frame that reached the account
+-- is later
 abbrev pub RuleInWords : Type 0
 RuleInWords =
     (s : List ℕ) (r : Runs) → Fresh s r → (before : List Call) (f : Call) → filterCode s f ≡ 0
-    → lastTime (reachedIn s before (accountNamed s (linkRow s f))) ≤ f .time
-    → Judged s before f (accountNamed s (linkRow s f)) (called (configIn s r) (final (configIn s r) (stateIn r) before) f .says .code)
+    → lastTime (reachedIn s (reverse before) (accountNamed s (linkRow s f))) ≤ f .time
+    → Judged s (reverse before) f (accountNamed s (linkRow s f)) (called (configIn s r) (final (configIn s r) (stateIn r) before) f .says .code)
 
 -- and of every other frame: the filter's code, or 8 where a frame that reached the account is later
 abbrev pub OthersInWords : Type 0
 OthersInWords =
     (s : List ℕ) (r : Runs) → Fresh s r → (before : List Call) (f : Call)
     → ((filterCode s f ≡ 0 → ⊥) → called (configIn s r) (final (configIn s r) (stateIn r) before) f .says .code ≡ filterCode s f)
-    × (filterCode s f ≡ 0 → f .time < lastTime (reachedIn s before (accountNamed s (linkRow s f)))
+    × (filterCode s f ≡ 0 → f .time < lastTime (reachedIn s (reverse before) (accountNamed s (linkRow s f)))
     → called (configIn s r) (final (configIn s r) (stateIn r) before) f .says .code ≡ 8)
 
 -- 10 never: every code of a history is one from 0 to 9

@@ -2,15 +2,16 @@
 -- of calls. It reads no credit, no stored time and no verdict.
 use Prim.Native.Nat.{ℕ}
 use mathlib.Core.Bool.{Bool, false, not, _&&_}
-use mathlib.Core.List.{List, [], _∷_, _++_, map}
+use mathlib.Core.List.{List, [], map}
 use lib.ListN.{length}
 use lib.Dec.{leb, eqb}
-use Rattle.octets.specs.Choice.{if_then_else_}
-use Rattle.octets.specs.Lists.{only}
+use Rattle.lists.specs.Choice.{if_then_else_}
+use Rattle.lists.specs.History.{Machine, answers, leftBy, byCalls}
+use Rattle.lists.specs.Lists.{only}
 use Rattle.frame.specs.Frame.{linkNumber}
 use Rattle.account.specs.Terms.{Terms}
 use Rattle.rule.specs.Bucket.{Reached}
-use Rattle.rule.specs.Rule.{Arrival, ruleArrived, rulePast}
+use Rattle.rule.specs.Rule.{Arrival, ruleArrived, ruleOfAccount}
 use Rattle.rows.specs.Rows.{foundIn}
 use Rattle.tables.specs.Rows.{accountIn, linkIn}
 use Rattle.rows.specs.declared.Found.{Found}
@@ -63,27 +64,25 @@ passing s a f = meant s a f && eqb (filterCode s f) 0
 abbrev pub arrivalOf : Call → Arrival
 arrivalOf f = record { octets = length (f .octets); time = f .time }
 
--- of the frames that pass to it in a list of calls, the rule for one account leaves out the late ones, and tells which of the others
--- were forwarded; the newest first
+-- of the frames that pass to it in a past, the rule for one account leaves out the late ones, and tells which of the others were
+-- forwarded. Both lists have the newest first
 unfoldable pub reachedIn : List ℕ → List Call → ℕ → List Reached
-reachedIn s h a = rulePast (imageTerms s a) [] (map arrivalOf (only (passing s a) h))
+reachedIn s past a = leftBy (ruleOfAccount (imageTerms s a)) [] (map arrivalOf (only (passing s a) past))
 
--- ---- the code of a frame behind the calls `before`. Its account, which is asked only where its number has a link
+-- ---- the code of a frame after a past. Its account, which is asked only where its number has a link
 abbrev pub accountNamed : List ℕ → Found → ℕ
 accountNamed s Nowhere = 0
 accountNamed s (At j) = imageLink s j .account
 
 -- the filter's code; else, from the frames that reached the account: late by the last of them, or forwarded or short by the rule
 unfoldable pub ruleCode : List ℕ → List Call → Call → ℕ
-ruleCode s before f =
+ruleCode s past f =
     if not (eqb (filterCode s f) 0) then filterCode s f
-    else ruleArrived (imageTerms s (accountNamed s (linkRow s f))) (reachedIn s before (accountNamed s (linkRow s f))) (length (f .octets)) (f .time) .code
+    else ruleArrived (imageTerms s (accountNamed s (linkRow s f))) (reachedIn s past (accountNamed s (linkRow s f))) (length (f .octets)) (f .time) .code
 
--- the codes of a list of calls, each with those before it
-unfoldable pub ruleCodesAfter : List ℕ → List Call → List Call → List ℕ
-ruleCodesAfter s before [] = []
-ruleCodesAfter s before (f ∷ fs) = ruleCode s before f ∷ ruleCodesAfter s (before ++ (f ∷ [])) fs
+-- the codes of a list of calls, each with those before it, from the start of a history
+abbrev pub ruleOfCalls : List ℕ → Machine (List Call) Call ℕ
+ruleOfCalls s = byCalls (ruleCode s)
 
--- from the start of a history
 abbrev pub ruleCodes : List ℕ → List Call → List ℕ
-ruleCodes s h = ruleCodesAfter s [] h
+ruleCodes s h = answers (ruleOfCalls s) [] h

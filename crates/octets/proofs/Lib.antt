@@ -1,7 +1,6 @@
 pub mod Claims
 pub mod Filled
 pub mod Leading
-pub mod Lists
 pub mod Numbers
 pub mod Parts
 pub mod Runs

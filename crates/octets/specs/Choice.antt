@@ -1,6 +1,2 @@
--- The library's `cond`, written as a choice reads.
-use mathlib.Core.Bool.{Bool, cond}
-
-infixr 10 if_then_else_
-abbrev pub if_then_else_ : {A : Type 0} → Bool → A → A → A
-if b then x else y = cond b x y
+-- The choice by a test, of lists.
+pub use Rattle.lists.specs.Choice.{if_then_else_}

@@ -1,6 +1,5 @@
 pub mod Choice
 pub mod Claims
 pub mod Leading
-pub mod Lists
 pub mod Numbers
 pub mod Runs

@@ -1,15 +1,16 @@
 -- Each delivery meets at most one copy: copies and deliveries counted over a history. Assumes nothing.
 use Prim.Native.Nat.{ℕ, _+_, _≤_}
 use mathlib.Core.Bool.{Bool, true, false, _&&_, and-false}
-use mathlib.Core.List.{List, [], _∷_, List·Memᴰ·head, List·Memᴰ·tail}
+use mathlib.Core.List.{List, [], _∷_}
 use mathlib.Core.Option.{Option, none, some}
 use mathlib.Core.Path.{_≡_, refl, sym, ap, ap₂, _∙_, subst}
 use native.Mathlib.Omega.{arith}
 use lib.ListN.{length}
 use borrow.Author.Tests.{eqb-true}
-use Rattle.octets.specs.Lists.{only}
-use Rattle.octets.proofs.Lists.{only-none, only-take, only-drop}
-use Rattle.octets.proofs.Tests.{split}
+use Rattle.lists.specs.History.{answers}
+use Rattle.lists.specs.Lists.{only}
+use Rattle.lists.proofs.Lists.{only-none, only-take, only-drop}
+use Rattle.lists.proofs.Tests.{split}
 use Rattle.rows.specs.declared.Found.{Found}
 use Rattle.rows.specs.declared.Found.the-variants.{At, Nowhere}
 use Rattle.receive.specs.declared.Arrival.{Arrival}
@@ -17,12 +18,12 @@ use Rattle.receive.specs.declared.Network.{Network}
 use Rattle.receive.specs.declared.Reception.{Reception}
 use Rattle.receive.specs.declared.Reception.the-variants.{Delivered, Copy, OutOfSequence, UnknownLink, Late}
 use Rattle.receive.specs.Lent.{other, skewIn, rowFound}
-use Rattle.receive.specs.Receive.{told, received}
-use Rattle.receptions.specs.History.{Answered, answeredOf, answers, Octets, onLink}
-use Rattle.receptions.specs.Rule.{receivedOn, ofLink, numbered, unmet, ruleAnswer}
+use Rattle.receive.specs.Receive.{told}
+use Rattle.receptions.specs.History.{Answered, answeredOf, onLink}
+use Rattle.receptions.specs.Rule.{receivedOn, ofLink, numbered, unmet, ruleAnswer, ruleOfFrames}
 use Rattle.receptions.specs.Words.{isDelivered, isCopy, deliveries, copies, OneCopyEach}
 use Rattle.receptions.proofs.Memory.{other-other, numbered-true, unmet-other, unmet-met, unmet-still, unmet-out, unmet-none}
-use Rattle.receptions.proofs.Rule.{joins, refused-stays, other-stays, Stands, one-step, starts}
+use Rattle.receptions.proofs.Rule.{joins, refused-stays, other-stays, rule-of-receptions}
 use Rattle.receptions.proofs.Meeting.{skew-within, copy-skew, rule-at, rule-nowhere}
 
 -- ---- counts
@@ -137,31 +138,33 @@ module _ (link : ℕ) (x : Network) (n : ℕ) (f : Arrival) (p : List Answered) 
 
 -- ---- a list of frames
 module _ (link : ℕ) (x : Network) (n : ℕ) (rows : List ℕ) (words : ℕ) where
-  counted : (h : List Arrival) → Octets h → (p : List Answered) (r : List ℕ) → Stands rows words p r
-      → copies link x n (answers rows r h) ≤ deliveries link (other x) n (answers rows r h) + waits (unmet (other x) n (ofLink link p))
+  due-one : (p : List Answered) (f : Arrival) → ruleAnswer rows words p f ≡ Copy → onLink link f ≡ true → numbered x n f ≡ true
+      → waits (unmet (other x) n (ofLink link p)) ≡ 1
+  due-one p f e on m =
+      let b = numbered-true x n f m in
+      let l : f .link ≡ link = eqb-true _ _ on in
+      subst (λ (k : ℕ). waits (unmet (other x) n (ofLink k p)) ≡ 1) l
+      (subst (λ (k : ℕ). waits (unmet (other x) k (ofLink (f .link) p)) ≡ 1) (b .1)
+      (subst (λ (z : Network). waits (unmet (other z) (f .number) (ofLink (f .link) p)) ≡ 1) (b .0)
+      (copy-waits rows words p f e)))
+
+  counted : (h : List Arrival) (p : List Answered)
+      → copies link x n (answers (ruleOfFrames rows words) p h)
+      ≤ deliveries link (other x) n (answers (ruleOfFrames rows words) p h) + waits (unmet (other x) n (ofLink link p))
   unfolding answers
-  counted [] o p r st = rw (only-none (λ (a : Answered). onLink link (a .frame) && (numbered x n (a .frame) && isCopy (a .says)))) (omega arith)
-  counted (f ∷ fs) o p r st =
-      let s = one-step rows words p r st f (o f (List·Memᴰ·head refl)) in
-      let a = received rows r f .says in
-      let ih = counted fs (λ g m. o g (List·Memᴰ·tail m)) (answeredOf f a ∷ p) (received rows r f .records) (s .stands) in
-      let t = turn link x n f p a (λ e on m. due-one (s .says) e on m) in
-      let c = count-more (λ (b : Answered). onLink link (b .frame) && (numbered x n (b .frame) && isCopy (b .says))) (answeredOf f a) (answers rows (received rows r f .records) fs) in
-      let d = count-more (λ (b : Answered). onLink link (b .frame) && (numbered (other x) n (b .frame) && isDelivered (b .says))) (answeredOf f a) (answers rows (received rows r f .records) fs) in
+  counted [] p = rw (only-none (λ (a : Answered). onLink link (a .frame) && (numbered x n (a .frame) && isCopy (a .says)))) (omega arith)
+  counted (f ∷ fs) p =
+      let a : Answered = answeredOf f (ruleAnswer rows words p f) in
+      let after : List Answered = answers (ruleOfFrames rows words) (a ∷ p) fs in
+      let ih = counted fs (a ∷ p) in
+      let t = turn link x n f p (a .says) (due-one p f) in
+      let c = count-more (λ (b : Answered). onLink link (b .frame) && (numbered x n (b .frame) && isCopy (b .says))) a after in
+      let d = count-more (λ (b : Answered). onLink link (b .frame) && (numbered (other x) n (b .frame) && isDelivered (b .says))) a after in
       omega (arith, ih, t, c, d)
-    where
-      due-one : received rows r f .says ≡ ruleAnswer rows words p f → received rows r f .says ≡ Copy → onLink link f ≡ true → numbered x n f ≡ true
-          → waits (unmet (other x) n (ofLink link p)) ≡ 1
-      due-one s e on m =
-          let b = numbered-true x n f m in
-          let l : f .link ≡ link = eqb-true _ _ on in
-          subst (λ (k : ℕ). waits (unmet (other x) n (ofLink k p)) ≡ 1) l
-          (subst (λ (k : ℕ). waits (unmet (other x) k (ofLink (f .link) p)) ≡ 1) (b .1)
-          (subst (λ (z : Network). waits (unmet (other z) (f .number) (ofLink (f .link) p)) ≡ 1) (b .0)
-          (copy-waits rows words p f (sym s ∙ e))))
 
 pub one-copy-each : OneCopyEach
 one-copy-each rows r z h o link x n =
-    let c = counted link x n rows (length r) h o [] r (starts rows r z) in
-    let w : waits (unmet (other x) n (ofLink link [])) ≡ 0 = ap (λ (q : List Answered). waits (unmet (other x) n q)) (only-none (receivedOn link)) ∙ ap waits (unmet-none (other x) n) ∙ waits-none in
-    omega arith
+    let c = counted link x n rows (length r) h [] in
+    let w : waits (unmet (other x) n (ofLink link [])) ≡ 0
+    = ap (λ (q : List Answered). waits (unmet (other x) n q)) (only-none (receivedOn link)) ∙ ap waits (unmet-none (other x) n) ∙ waits-none in
+    subst (λ (q : List Answered). copies link x n q ≤ deliveries link (other x) n q) (sym (rule-of-receptions rows r z h o)) (omega arith)

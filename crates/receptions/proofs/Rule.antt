@@ -1,14 +1,15 @@
 -- The rule over a history: one call, then a list of them. Assumes nothing.
 use Prim.Native.Nat.{ℕ, _+_, _*_, _≤_, _<_}
 use mathlib.Core.Bool.{Bool, true, false, _&&_, and-false}
-use mathlib.Core.List.{List, [], _∷_, reverseAux, List·Memᴰ·head, List·Memᴰ·tail}
+use mathlib.Core.List.{List, [], _∷_, reverse}
 use mathlib.Core.Path.{_≡_, refl, sym, ap, ap₂, _∙_, subst}
 use native.Mathlib.Omega.{arith}
 use lib.ListN.{length}
 use borrow.Author.Tests.{eqb-true, eqb-false}
+use Rattle.lists.proofs.History.{Simulates, same-answers, simulated-final, final-answers}
+use Rattle.lists.proofs.Lists.{only-none, only-take, only-drop}
+use Rattle.lists.proofs.Tests.{split}
 use Rattle.octets.specs.Numbers.{numberAt}
-use Rattle.octets.proofs.Lists.{only-none, only-take, only-drop}
-use Rattle.octets.proofs.Tests.{split}
 use Rattle.rows.specs.declared.Found.{Found}
 use Rattle.rows.specs.declared.Found.the-variants.{At, Nowhere}
 use Rattle.receive.specs.declared.Arrival.{Arrival}
@@ -20,10 +21,10 @@ use Rattle.sequence.specs.Sequence.{numberCount}
 use Rattle.receive.proofs.Judging.{refused-leaves, call-at, call-nowhere}
 use Rattle.receive.proofs.Kept.{left-beside}
 use Rattle.receive.proofs.Claims.{row-is-first, record-whole, only-record}
-use Rattle.receptions.specs.History.{Answered, answeredOf, answers, final, Empty, Octets, onLink}
-use Rattle.receptions.specs.Rule.{receivedOn, ofLink, ruleBy, ruleAnswer, ruleAfter}
+use Rattle.receptions.specs.History.{Answered, answeredOf, receiving, final, Empty, Octets, onLink}
+use Rattle.receptions.specs.Rule.{receivedOn, ofLink, ruleBy, ruleAnswer, ruleOfFrames}
 use Rattle.receptions.specs.Claims.{RuleOfReceptions}
-use Rattle.receptions.specs.Words.{RuleOfNext}
+use Rattle.receptions.specs.Words.{pastOf, RuleOfNext}
 use Rattle.receptions.proofs.Memory.{Represents, empty-says, same-says, answer-says, left-says}
 
 -- ---- rows of other numbers are other rows
@@ -124,24 +125,15 @@ module _ (rows : List ℕ) (words : ℕ) (p : List Answered) (r : List ℕ) (st 
       cases (At j) e = subst (Step rows words p f) (sym (call-at rows r f j (by-length (At j) e))) (known-step j e)
 
 -- ---- a list of calls
-module _ (rows : List ℕ) (words : ℕ) where
-  pub rule-list : (h : List Arrival) → Octets h → (p : List Answered) (r : List ℕ) → Stands rows words p r → answers rows r h ≡ ruleAfter rows words p h
-  unfolding answers ruleAfter
-  rule-list [] o p r st = refl
-  rule-list (f ∷ fs) o p r st =
-      let s = one-step rows words p r st f (o f (List·Memᴰ·head refl)) in
-      let a : answeredOf f (received rows r f .says) ≡ answeredOf f (ruleAnswer rows words p f) = ap (answeredOf f) (s .says) in
-      ap₂ _∷_ a
-      (rule-list fs (λ g m. o g (List·Memᴰ·tail m)) (answeredOf f (received rows r f .says) ∷ p) (received rows r f .records) (s .stands)
-      ∙ ap (λ (b : Answered). ruleAfter rows words (b ∷ p) fs) a)
-
-  pub stands-after : (h : List Arrival) → Octets h → (p : List Answered) (r : List ℕ) → Stands rows words p r
-      → Stands rows words (reverseAux (answers rows r h) p) (final rows r h)
-  unfolding answers final
-  stands-after [] o p r st = st
-  stands-after (f ∷ fs) o p r st =
-      stands-after fs (λ g m. o g (List·Memᴰ·tail m)) (answeredOf f (received rows r f .says) ∷ p) (received rows r f .records)
-      (one-step rows words p r st f (o f (List·Memᴰ·head refl)) .stands)
+each-frame : (rows : List ℕ) (words : ℕ) (h : List Arrival) → Octets h
+    → Simulates (receiving rows) (ruleOfFrames rows words) (λ a. a) (Stands rows words) h
+each-frame rows words h o =
+    record {
+      each = λ f i p r st.
+          let s = one-step rows words p r st f (o f i) in
+          let a = ap (answeredOf f) (s .says) in
+          (a, subst (λ (b : Answered). Stands rows words (b ∷ p) (received rows r f .records)) a (s .stands));
+    }
 
 -- ---- from empty records
 pub starts : (rows r : List ℕ) → Empty rows r → Stands rows (length r) [] r
@@ -152,8 +144,17 @@ starts rows r z =
     }
 
 pub rule-of-receptions : RuleOfReceptions
-rule-of-receptions rows r z h o = rule-list rows (length r) h o [] r (starts rows r z)
+rule-of-receptions rows r z h o = same-answers h (each-frame rows (length r) h o) [] r (starts rows r z)
+
+-- the past of the rule is that of the answers
+stands-after : (rows r : List ℕ) → Empty rows r → (before : List Arrival) → Octets before
+    → Stands rows (length r) (pastOf rows r before) (final rows r before)
+stands-after rows r z before o =
+    subst (λ (p : List Answered). Stands rows (length r) p (final rows r before))
+    (final-answers (λ past f. answeredOf f (ruleAnswer rows (length r) past f)) before
+    ∙ ap reverse (sym (rule-of-receptions rows r z before o)))
+    (simulated-final before (each-frame rows (length r) before o) [] r (starts rows r z))
 
 pub rule-of-next : RuleOfNext
 rule-of-next rows r z before o f h =
-    one-step rows (length r) _ (final rows r before) (stands-after rows (length r) before o [] r (starts rows r z)) f h .says
+    one-step rows (length r) (pastOf rows r before) (final rows r before) (stands-after rows r z before o) f h .says

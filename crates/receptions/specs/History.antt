@@ -1,11 +1,13 @@
 -- Histories of the receiving end (document 02, Q-1): lists of frames from empty records, each on the records that the one before left.
 use Prim.Native.Nat.{ℕ, _*_, _<_}
 use mathlib.Core.Bool.{Bool}
-use mathlib.Core.List.{List, [], _∷_, List·Memᴰ}
+use mathlib.Core.List.{List, [], List·Memᴰ}
 use mathlib.Core.Option.{Option, none, some}
 use mathlib.Core.Path.{_≡_}
 use lib.ListN.{length, take, drop}
 use lib.Dec.{eqb}
+use Rattle.lists.specs.History
+use Rattle.lists.specs.History.{Machine}
 use Rattle.rows.specs.declared.Found.{Found}
 use Rattle.rows.specs.declared.Found.the-variants.{At, Nowhere}
 use Rattle.receive.specs.declared.Arrival.{Arrival}
@@ -22,14 +24,16 @@ pub record Answered : Type 0 where
 abbrev pub answeredOf : Arrival → Reception → Answered
 answeredOf f a = record { frame = f; says = a }
 
--- what the frames of a list are answered, and the records that the last one leaves
-unfoldable pub answers : List ℕ → List ℕ → List Arrival → List Answered
-answers rows r [] = []
-answers rows r (f ∷ fs) = answeredOf f (received rows r f .says) ∷ answers rows (received rows r f .records) fs
+-- frames received by these rows: what a frame is answered, and the records that it leaves
+abbrev pub receiving : List ℕ → Machine (List ℕ) Arrival Answered
+receiving rows = record { says = λ r f. answeredOf f (received rows r f .says); leaves = λ r f. received rows r f .records }
 
-unfoldable pub final : List ℕ → List ℕ → List Arrival → List ℕ
-final rows r [] = r
-final rows r (f ∷ fs) = final rows (received rows r f .records) fs
+-- what the frames of a list are answered, and the records that the last one leaves
+abbrev pub answers : List ℕ → List ℕ → List Arrival → List Answered
+answers rows r h = History.answers (receiving rows) r h
+
+abbrev pub final : List ℕ → List ℕ → List Arrival → List ℕ
+final rows r h = History.final (receiving rows) r h
 
 -- the records of the rows in use are empty
 abbrev pub Empty : List ℕ → List ℕ → Type 0

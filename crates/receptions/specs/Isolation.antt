@@ -2,14 +2,14 @@
 use Prim.Native.Nat.{ℕ}
 use mathlib.Core.List.{List}
 use mathlib.Core.Path.{_≡_}
-use Rattle.octets.specs.Lists.{only}
+use Rattle.lists.specs.Lists.{only, answersTo}
 use Rattle.receive.specs.declared.Arrival.{Arrival}
 use Rattle.receptions.specs.History.{answers, final, Empty, Octets, onLink, skewOf, recordOf}
 
 -- what two histories share, each with rows and records of its own, where the link has the same SkewMax in both and the
 -- frames on it are the same: the answers to these, and the record that they leave
 pub record SameOnLink (link : ℕ) (rows r : List ℕ) (h : List Arrival) (rows′ r′ : List ℕ) (h′ : List Arrival) : Type 0 where
-  pub says : only (λ a. onLink link (a .frame)) (answers rows r h) ≡ only (λ a. onLink link (a .frame)) (answers rows′ r′ h′)
+  pub says : answersTo (onLink link) h (answers rows r h) ≡ answersTo (onLink link) h′ (answers rows′ r′ h′)
   pub leaves : recordOf rows (final rows r h) link ≡ recordOf rows′ (final rows′ r′ h′) link
 
 abbrev pub ReceptionsApart : Type 0

@@ -5,8 +5,9 @@ use mathlib.Core.Bool.{Bool, true, false, _&&_}
 use mathlib.Core.List.{List, [], _∷_}
 use mathlib.Core.Option.{Option, none, some}
 use lib.Dec.{eqb}
-use Rattle.octets.specs.Choice.{if_then_else_}
-use Rattle.octets.specs.Lists.{only}
+use Rattle.lists.specs.Choice.{if_then_else_}
+use Rattle.lists.specs.History.{Machine, answers, byAnswers}
+use Rattle.lists.specs.Lists.{only}
 use Rattle.rows.specs.declared.Found.{Found}
 use Rattle.rows.specs.declared.Found.the-variants.{At, Nowhere}
 use Rattle.receive.specs.declared.Arrival.{Arrival}
@@ -70,12 +71,9 @@ ruleBy rows past f (At j) = ruleOn (skewIn rows j) (ofLink (f .link) past) f
 unfoldable pub ruleAnswer : List ℕ → ℕ → List Answered → Arrival → Reception
 ruleAnswer rows words past f = ruleBy rows past f (rowFound rows words (f .link))
 
--- the answers to a list of frames, each with those before it
-unfoldable pub ruleAfter : List ℕ → ℕ → List Answered → List Arrival → List Answered
-ruleAfter rows words past [] = []
-ruleAfter rows words past (f ∷ fs) =
-    answeredOf f (ruleAnswer rows words past f) ∷ ruleAfter rows words (answeredOf f (ruleAnswer rows words past f) ∷ past) fs
+-- the answers to a list of frames, each with those before it, from the start of a history
+abbrev pub ruleOfFrames : List ℕ → ℕ → Machine (List Answered) Arrival Answered
+ruleOfFrames rows words = byAnswers (λ past f. answeredOf f (ruleAnswer rows words past f))
 
--- from the start of a history
 abbrev pub ruleAnswers : List ℕ → ℕ → List Arrival → List Answered
-ruleAnswers rows words h = ruleAfter rows words [] h
+ruleAnswers rows words h = answers (ruleOfFrames rows words) [] h

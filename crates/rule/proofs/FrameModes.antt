@@ -6,13 +6,14 @@ use mathlib.Core.Path.{_≡_, refl, sym, ap, ap₂, _∙_}
 use mathlib.Core.List.{List, [], _∷_, map}
 use native.Mathlib.Nat.{mul-add, mul-zero, one-mul, mul-le-mul-left, le-of-mul-le-mul-left}
 use lib.Dec.{ltb, leb, eqb, lit≤}
-use Rattle.octets.proofs.Tests.{split, leb-same}
+use Rattle.lists.proofs.Tests.{split, leb-same}
+use Rattle.lists.proofs.History.{Simulates, same-answers}
 use Rattle.frame.specs.Frame.{lengthCode}
 use Rattle.account.specs.Terms.{Terms, termsWith, frameMode, lineFrameMode, inLimits, bag, added, charge, rate, byOctets, charged, cost}
 use Rattle.account.specs.Account.{loaded}
 use Rattle.account.proofs.Limits.{Limits, limits, in-limits-by, rate-low}
 use Rattle.rule.specs.Bucket.{Reached, reached, lastTime, holdsFrom, ruleHolds}
-use Rattle.rule.specs.Rule.{Arrival, stepsTold, codes, allowance, Ruled, ruled, ruleArrived, ruleStep, ruleCodes, FrameModesAlike}
+use Rattle.rule.specs.Rule.{Arrival, stepsTold, codes, allowance, Ruled, ruled, ruleArrived, ruleStep, ruleOfAccount, ruleCodes, FrameModesAlike}
 use Rattle.rule.proofs.Rule.{rule-of-steps}
 
 -- ---- every cost times f
@@ -81,18 +82,20 @@ module _ (p : Terms) (frames : byOctets (p .mode) ≡ false) (pos : 1 ≤ rate p
       (λ e. simp (e, arrived-grown z n t))
       (λ e. simp e)
 
-  codes-grown : (steps : List Arrival) (z : List Reached) → ruleCodes p (grown (rate p) pos z) steps ≡ ruleCodes unit z steps
-  unfolding ruleCodes grown-ruled
-  codes-grown [] z = refl
-  codes-grown (s ∷ steps) z =
-      let e = step-grown z (s .octets) (s .time) in
-      ap₂ _∷_ (ap (λ (r : Ruled). r .code) e)
-      (ap (λ (r : Ruled). ruleCodes p (r .past) steps) e ∙ codes-grown steps (ruleStep unit z (s .octets) (s .time) .past))
+  each-grown : (steps : List Arrival)
+      → Simulates (ruleOfAccount p) (ruleOfAccount unit) (λ c. c) (λ z y. y ≡ grown (rate p) pos z) steps
+  unfolding grown-ruled
+  each-grown steps =
+      record {
+        each = λ s _ z y r.
+            let e = ap (λ (w : List Reached). ruleStep p w (s .octets) (s .time)) r ∙ step-grown z (s .octets) (s .time) in
+            (ap (λ (q : Ruled). q .code) e, ap (λ (q : Ruled). q .past) e);
+      }
 
   -- from loading on
   codes-told : inLimits p ≡ true → (steps : List Arrival) → codes (stepsTold (loaded p) steps) ≡ ruleCodes unit [] steps
   unfolding grown
-  codes-told ok steps = rule-of-steps p ok steps ∙ codes-grown steps []
+  codes-told ok steps = rule-of-steps p ok steps ∙ same-answers steps (each-grown steps) [] [] refl
 
 -- the other values kept, any mode that charges Smax
 module _ (s k j : ℕ) (ok : inLimits (termsWith s k j frameMode) ≡ true) where

@@ -2,20 +2,21 @@
 -- single step, for a frame that no code before 8 refuses; the rule for every list of steps follows from it. Assumes nothing.
 use Prim.Native.Nat.{ℕ, _+_, _-_, _*_, _≤_}
 use mathlib.Core.Bool.{true, false, false≢true}
-use mathlib.Core.Path.{_≡_, refl, sym, ap, ap₂, _∙_}
+use mathlib.Core.Path.{_≡_, refl, sym, ap, _∙_}
 use mathlib.Core.List.{List, [], _∷_}
 use mathlib.Core.Logic.{_↔_}
 use native.Mathlib.Nat.{mul-add, sub-zero}
 use native.Mathlib.Omega.{arith}
 use lib.Dec.{leb, eqb}
 use borrow.Author.Tests.{le-leb, lt-leb, lt-ltb, le-ltb, eq-eqb, ne-eqb, eqb-true, eqb-false}
-use Rattle.octets.proofs.Tests.{split}
+use Rattle.lists.proofs.Tests.{split}
+use Rattle.lists.proofs.History.{Simulates, simulated-answers, simulated-final}
 use Rattle.frame.specs.Frame.{lengthCode}
 use Rattle.account.specs.Terms.{Terms, inLimits, bag, rate, capacity, cost}
 use Rattle.account.specs.Account.{accountOf, holding, loaded, valid, creditAt}
 use Rattle.account.specs.Step.{Stepped, stepped, policed}
 use Rattle.rule.specs.Bucket.{Reached, reached, lastTime, ruleHolds, FromEach}
-use Rattle.rule.specs.Rule.{Arrival, accountAfter, stepsTold, codes, allowance, Ruled, ruled, ruleArrived, ruleStep, ruleCodes, rulePast, AllowanceByMode, RuleOfSteps, StepsInWords}
+use Rattle.rule.specs.Rule.{Arrival, steppingAccount, accountAfter, allowance, Ruled, ruled, ruleArrived, ruleStep, ruleOfAccount, rulePast, AllowanceByMode, RuleOfSteps, StepsInWords}
 use Rattle.account.specs.declared.Account.{Account}
 use Rattle.account.specs.declared.Outcome.the-variants.{Forwarded, Short}
 use Rattle.rule.proofs.Bucket.{gain, held, topped, held-high, rule-read}
@@ -112,23 +113,21 @@ module _ (p : Terms) where
           (rw (← police-length (state past) n t (lengthCode n) refl m) (record { same-code = refl; same-account = refl; sound = s })))
 
   -- ---- every list of steps
-  module _ (ok : inLimits p ≡ true) where
-    agrees : (steps : List Arrival) (past : List Reached) → Sound past → codes (stepsTold (state past) steps) ≡ ruleCodes p past steps
-    unfolding stepsTold ruleCodes
-    agrees [] past s = refl
-    agrees (f ∷ steps) past s =
-        let a = stepping past s ok (f .octets) (f .time) in
-        ap₂ _∷_ (a .same-code) (ap (λ (b : Account). codes (stepsTold b steps)) (a .same-account) ∙ agrees steps _ (a .sound))
+  -- an account is the one that the frames that reached it leave
+  abbrev Stands : List Reached → Account → Type 0
+  Stands past a = (a ≡ state past) × Sound past
 
-    -- the account after the steps is that of the frames that then have reached it
-    after : (steps : List Arrival) (past : List Reached) → Sound past
-        → (accountAfter (state past) steps ≡ state (rulePast p past steps)) × Sound (rulePast p past steps)
-    unfolding accountAfter rulePast
-    after [] past s = (refl, s)
-    after (f ∷ steps) past s =
-        let a = stepping past s ok (f .octets) (f .time) in
-        let b = after steps _ (a .sound) in
-        (ap (λ (c : Account). accountAfter c steps) (a .same-account) ∙ b .0, b .1)
+  -- so a step answers with the rule's code, and the account stays so
+  one-step : inLimits p ≡ true → (steps : List Arrival) → Simulates steppingAccount (ruleOfAccount p) (λ w. w .code) Stands steps
+  one-step ok steps =
+      record {
+        each = λ f _ past a st.
+            let q = stepping past (st .1) ok (f .octets) (f .time) in
+            let e = ap (λ (b : Account). policed b (f .octets) (f .time)) (st .0) in (
+              ap (λ (z : Stepped). z .says .code) e ∙ q .same-code,
+              (ap (λ (z : Stepped). z .account) e ∙ q .same-account, q .sound),
+            );
+      }
 
   -- what loading leaves is the account that no frame has reached
   pub state-loaded : loaded p ≡ state []
@@ -144,7 +143,7 @@ allowance-by-mode s k j since =
     (w _ _ (f .0 .0), w _ _ (f .1 .0), w _ _ (f .2 .0), w _ _ (f .3 .0))
 
 pub rule-of-steps : RuleOfSteps
-rule-of-steps p ok steps = ap (λ (a : Account). codes (stepsTold a steps)) (state-loaded p) ∙ agrees p ok steps [] tt
+rule-of-steps p ok steps = simulated-answers steps (one-step p ok steps) [] (loaded p) (state-loaded p, tt)
 
 -- ---- the rule in words
 
@@ -171,8 +170,7 @@ module _ (p : Terms) (past : List Reached) (n t : ℕ) (h : lastTime past ≤ t)
 
 pub steps-in-words : StepsInWords
 steps-in-words p ok before n t z h =
-    let a = after p ok before [] tt in
+    let a = simulated-final before (one-step p ok before) [] (loaded p) (state-loaded p, tt) in
     let past : List Reached = rulePast p [] before in
-    let account : accountAfter (loaded p) before ≡ state p past = ap (λ (b : Account). accountAfter b before) (state-loaded p) ∙ a .0 in
     in-words p past n t h (policed (accountAfter (loaded p) before) n t .says .code)
-    (ap (λ (b : Account). policed b n t .says .code) account ∙ arrival p past (a .1) ok n t z .same-code)
+    (ap (λ (b : Account). policed b n t .says .code) (a .0) ∙ arrival p past (a .1) ok n t z .same-code)

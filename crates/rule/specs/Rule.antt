@@ -6,7 +6,8 @@ use mathlib.Core.Path.{_≡_}
 use mathlib.Core.List.{List, [], _∷_, map}
 use mathlib.Core.Logic.{_↔_}
 use lib.Dec.{ltb, eqb}
-use Rattle.octets.specs.Choice.{if_then_else_}
+use Rattle.lists.specs.Choice.{if_then_else_}
+use Rattle.lists.specs.History.{Machine, answers, final}
 use Rattle.frame.specs.Frame.{lengthCode}
 use Rattle.account.specs.Terms.{Terms, termsWith, inLimits, bag, rate, cost}
 use Rattle.account.specs.Account.{loaded}
@@ -19,16 +20,20 @@ pub record Arrival : Type 0 where
   pub octets : ℕ
   pub time : ℕ
 
--- ---- the steps: the account is handed on from one to the next
+-- ---- the steps: each on the account that the one before left
+abbrev pub steppingAccount : Machine Account Arrival Told
+steppingAccount =
+    record {
+      says = λ a s. policed a (s .octets) (s .time) .says;
+      leaves = λ a s. policed a (s .octets) (s .time) .account;
+    }
 
-unfoldable pub accountAfter : Account → List Arrival → Account
-accountAfter a [] = a
-accountAfter a (s ∷ steps) = accountAfter (policed a (s .octets) (s .time) .account) steps
+-- what the last step leaves, and what the steps answer
+abbrev pub accountAfter : Account → List Arrival → Account
+accountAfter a steps = final steppingAccount a steps
 
-unfoldable pub stepsTold : Account → List Arrival → List Told
-stepsTold a [] = []
-stepsTold a (s ∷ steps) =
-    policed a (s .octets) (s .time) .says ∷ stepsTold (policed a (s .octets) (s .time) .account) steps
+abbrev pub stepsTold : Account → List Arrival → List Told
+stepsTold a steps = answers steppingAccount a steps
 
 abbrev pub codes : List Told → List ℕ
 codes = map (λ w. w .code)
@@ -60,15 +65,20 @@ unfoldable pub ruleStep : Terms → List Reached → ℕ → ℕ → Ruled
 ruleStep p past n t =
     if not (eqb (lengthCode n) 0) then ruled (lengthCode n) past else ruleArrived p past n t
 
--- the codes of a list of steps, and the frames that have then reached the account
-unfoldable pub ruleCodes : Terms → List Reached → List Arrival → List ℕ
-ruleCodes p past [] = []
-ruleCodes p past (s ∷ steps) =
-    ruleStep p past (s .octets) (s .time) .code ∷ ruleCodes p (ruleStep p past (s .octets) (s .time) .past) steps
+-- the rule for a list of steps, each with the frames that have reached the account
+abbrev pub ruleOfAccount : Terms → Machine (List Reached) Arrival ℕ
+ruleOfAccount p =
+    record {
+      says = λ past s. ruleStep p past (s .octets) (s .time) .code;
+      leaves = λ past s. ruleStep p past (s .octets) (s .time) .past;
+    }
 
-unfoldable pub rulePast : Terms → List Reached → List Arrival → List Reached
-rulePast p past [] = past
-rulePast p past (s ∷ steps) = rulePast p (ruleStep p past (s .octets) (s .time) .past) steps
+-- the codes, and the frames that have then reached the account
+abbrev pub ruleCodes : Terms → List Reached → List Arrival → List ℕ
+ruleCodes p past steps = answers (ruleOfAccount p) past steps
+
+abbrev pub rulePast : Terms → List Reached → List Arrival → List Reached
+rulePast p past steps = final (ruleOfAccount p) past steps
 
 -- ---- the claims
 

@@ -1,0 +1,127 @@
+-- Laws of histories. Assumes nothing.
+use mathlib.Core.Bool.{Bool, true, false}
+use mathlib.Core.List.{List, [], _∷_, _++_, map, map-id, reverse, reverseAux}
+use mathlib.Core.List.{List·Memᴰ, List·Memᴰ·head, List·Memᴰ·tail, List·Memᴰ·not-nil, List·Memᴰ·cases-cons}
+use mathlib.Core.Logic.{⊎-elim}
+use mathlib.Core.Path.{_≡_, refl, sym, ap, ap₂, _∙_, subst}
+use Rattle.lists.specs.Lists.{only, answersTo}
+use Rattle.lists.specs.History.{Machine, answers, final, leftBy, byCalls, byAnswers}
+use Rattle.lists.proofs.Tests.{split}
+
+-- ---- one list after another
+module _ {S C A : Type 0} (m : Machine S C A) where
+  pub answers-append : (h k : List C) (s : S) → answers m s (h ++ k) ≡ answers m s h ++ answers m (final m s h) k
+  unfolding answers final
+  answers-append [] k s = refl
+  answers-append (c ∷ h) k s = ap (_∷_ (m .says s c)) (answers-append h k (m .leaves s c))
+
+  -- what holds of every answer that a call can get, of each in a list
+  pub answers-each : (P : A → Type 0) → ((s : S) (c : C) → P (m .says s c))
+      → (h : List C) (s : S) (a : A) → List·Memᴰ a (answers m s h) → P a
+  unfolding answers
+  answers-each P all [] s a i = absurd (List·Memᴰ·not-nil i)
+  answers-each P all (c ∷ h) s a i =
+      ⊎-elim (λ e. subst P (sym e) (all s c)) (answers-each P all h (m .leaves s c) a) (List·Memᴰ·cases-cons i)
+
+  -- a past is a history with the newest call first
+  past-final : (h past : List C) (s : S) → leftBy m s (reverseAux h past) ≡ final m (leftBy m s past) h
+  unfolding final leftBy
+  past-final [] past s = refl
+  past-final (c ∷ h) past s = past-final h (c ∷ past) s
+
+  pub left-by : (h : List C) (s : S) → leftBy m s (reverse h) ≡ final m s h
+  unfolding leftBy
+  left-by h s = past-final h [] s
+
+-- ---- the state of a rule is the past
+module _ {C A : Type 0} (rule : List C → C → A) where
+  calls-past : (h past : List C) → final (byCalls rule) past h ≡ reverseAux h past
+  unfolding final
+  calls-past [] past = refl
+  calls-past (c ∷ h) past = calls-past h (c ∷ past)
+
+  pub final-calls : (h : List C) → final (byCalls rule) [] h ≡ reverse h
+  final-calls h = calls-past h []
+
+module _ {C A : Type 0} (rule : List A → C → A) where
+  answers-past : (h : List C) (past : List A) → final (byAnswers rule) past h ≡ reverseAux (answers (byAnswers rule) past h) past
+  unfolding answers final
+  answers-past [] past = refl
+  answers-past (c ∷ h) past = answers-past h (rule past c ∷ past)
+
+  pub final-answers : (h : List C) → final (byAnswers rule) [] h ≡ reverse (answers (byAnswers rule) [] h)
+  final-answers h = answers-past h []
+
+-- ---- a simulation, on the calls of a list: from states that R relates, n answers what m's answer tells, and R relates what they
+-- leave
+pub record Simulates {S T C A B : Type 0} (m : Machine S C A) (n : Machine T C B)
+    (tells : A → B) (R : T → S → Type 0) (h : List C) : Type 0 where
+  pub each : (c : C) → List·Memᴰ c h → (t : T) (s : S) → R t s
+      → (tells (m .says s c) ≡ n .says t c) × R (n .leaves t c) (m .leaves s c)
+
+module _ {S T C A B : Type 0} {m : Machine S C A} {n : Machine T C B} {tells : A → B} {R : T → S → Type 0} where
+  rest : (c : C) (h : List C) → Simulates m n tells R (c ∷ h) → Simulates m n tells R h
+  rest c h k = record { each = λ d i. k .each d (List·Memᴰ·tail i) }
+
+  pub simulated-answers : (h : List C) → Simulates m n tells R h → (t : T) (s : S) → R t s
+      → map tells (answers m s h) ≡ answers n t h
+  unfolding answers
+  simulated-answers [] k t s r = refl
+  simulated-answers (c ∷ h) k t s r =
+      let q = k .each c (List·Memᴰ·head refl) t s r in
+      ap₂ _∷_ (q .0) (simulated-answers h (rest c h k) (n .leaves t c) (m .leaves s c) (q .1))
+
+  pub simulated-final : (h : List C) → Simulates m n tells R h → (t : T) (s : S) → R t s → R (final n t h) (final m s h)
+  unfolding final
+  simulated-final [] k t s r = r
+  simulated-final (c ∷ h) k t s r =
+      simulated-final h (rest c h k) (n .leaves t c) (m .leaves s c) (k .each c (List·Memᴰ·head refl) t s r .1)
+
+-- the same answers
+module _ {S T C A : Type 0} {m : Machine S C A} {n : Machine T C A} {R : T → S → Type 0} where
+  pub same-answers : (h : List C) → Simulates m n (λ x. x) R h → (t : T) (s : S) → R t s → answers m s h ≡ answers n t h
+  same-answers h k t s r = sym (map-id (answers m s h)) ∙ simulated-answers h k t s r
+
+-- ---- a simulation by the picked calls alone: these n answers as m does, and any other call, of which n knows nothing, keeps R
+pub record SimulatesPicked {S T C A : Type 0} (m : Machine S C A) (n : Machine T C A)
+    (pick : C → Bool) (R : T → S → Type 0) (h : List C) : Type 0 where
+  pub picked : (c : C) → List·Memᴰ c h → pick c ≡ true → (t : T) (s : S) → R t s
+      → (m .says s c ≡ n .says t c) × R (n .leaves t c) (m .leaves s c)
+  pub others : (c : C) → List·Memᴰ c h → pick c ≡ false → (t : T) (s : S) → R t s → R t (m .leaves s c)
+
+module _ {S T C A : Type 0} {m : Machine S C A} {n : Machine T C A} {pick : C → Bool} {R : T → S → Type 0} where
+  rest-picked : (c : C) (h : List C) → SimulatesPicked m n pick R (c ∷ h) → SimulatesPicked m n pick R h
+  rest-picked c h k = record { picked = λ d i. k .picked d (List·Memᴰ·tail i); others = λ d i. k .others d (List·Memᴰ·tail i) }
+
+  pub picked-answers : (h : List C) → SimulatesPicked m n pick R h → (t : T) (s : S) → R t s
+      → answersTo pick h (answers m s h) ≡ answers n t (only pick h)
+  unfolding answers answersTo only
+  picked-answers [] k t s r = refl
+  picked-answers (c ∷ h) k t s r =
+      split (pick c)
+      (λ e. let q = k .picked c (List·Memᴰ·head refl) e t s r in
+      simp e (ap₂ _∷_ (q .0) (picked-answers h (rest-picked c h k) (n .leaves t c) (m .leaves s c) (q .1))))
+      (λ e. simp e (picked-answers h (rest-picked c h k) t (m .leaves s c) (k .others c (List·Memᴰ·head refl) e t s r)))
+
+  pub picked-final : (h : List C) → SimulatesPicked m n pick R h → (t : T) (s : S) → R t s
+      → R (final n t (only pick h)) (final m s h)
+  unfolding final only
+  picked-final [] k t s r = r
+  picked-final (c ∷ h) k t s r =
+      split (pick c)
+      (λ e. let q = k .picked c (List·Memᴰ·head refl) e t s r in
+      simp e (picked-final h (rest-picked c h k) (n .leaves t c) (m .leaves s c) (q .1)))
+      (λ e. simp e (picked-final h (rest-picked c h k) t (m .leaves s c) (k .others c (List·Memᴰ·head refl) e t s r)))
+
+-- ---- two histories that share the picked calls: the same answers to these, and what they leave is related to one state
+module _ {S S′ T C A : Type 0} {m : Machine S C A} {m′ : Machine S′ C A} {n : Machine T C A}
+    {pick : C → Bool} {R : T → S → Type 0} {R′ : T → S′ → Type 0} where
+  pub alike : (h h′ : List C) → SimulatesPicked m n pick R h → SimulatesPicked m′ n pick R′ h′ → only pick h ≡ only pick h′
+      → (t : T) (s : S) → R t s → (s′ : S′) → R′ t s′
+      → (answersTo pick h (answers m s h) ≡ answersTo pick h′ (answers m′ s′ h′))
+      × R (final n t (only pick h)) (final m s h) × R′ (final n t (only pick h)) (final m′ s′ h′)
+  alike h h′ k k′ e t s r s′ r′ = (
+    picked-answers h k t s r ∙ ap (answers n t) e ∙ sym (picked-answers h′ k′ t s′ r′),
+    picked-final h k t s r,
+    subst (λ (z : List C). R′ (final n t z) (final m′ s′ h′)) (sym e) (picked-final h′ k′ t s′ r′),
+  )

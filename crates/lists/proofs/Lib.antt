@@ -1,0 +1,3 @@
+pub mod History
+pub mod Lists
+pub mod Tests

@@ -1,0 +1,31 @@
+-- Histories: lists of calls, each on what the call before left. What a call is, what it answers and what it leaves is any.
+use mathlib.Core.List.{List, [], _∷_}
+
+-- how calls are answered: what a call on a state answers, and the state that it leaves
+pub record Machine (S C A : Type 0) : Type 0 where
+  pub says : S → C → A
+  pub leaves : S → C → S
+
+module _ {S C A : Type 0} (m : Machine S C A) where
+  -- the answers to a list of calls, one each
+  unfoldable pub answers : S → List C → List A
+  answers s [] = []
+  answers s (c ∷ cs) = m .says s c ∷ answers (m .leaves s c) cs
+
+  -- what the last call leaves
+  unfoldable pub final : S → List C → S
+  final s [] = s
+  final s (c ∷ cs) = final (m .leaves s c) cs
+
+  -- the same of a past: calls with the newest first. Every past has that order
+  unfoldable pub leftBy : S → List C → S
+  leftBy s [] = s
+  leftBy s (c ∷ past) = m .leaves (leftBy s past) c
+
+-- ---- rules, which name no stored state: a call's answer from the calls before it
+abbrev pub byCalls : {C A : Type 0} → (List C → C → A) → Machine (List C) C A
+byCalls rule = record { says = rule; leaves = λ past c. c ∷ past }
+
+-- from the answers before it, which may carry their calls
+abbrev pub byAnswers : {C A : Type 0} → (List A → C → A) → Machine (List A) C A
+byAnswers rule = record { says = rule; leaves = λ past c. rule past c ∷ past }
