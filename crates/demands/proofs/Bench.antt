@@ -9,7 +9,7 @@ use lib.Dec.{lit<}
 use Rattle.octets.specs.Numbers.{numberAt}
 use Rattle.octets.specs.Runs.{octetsAt, joined}
 use Rattle.frame.specs.Frame.{lengthCode}
-use Rattle.account.specs.Terms.{byteMode, frameMode, inLimits, bag, added, charge, rate, capacity, byOctets, charged, cost}
+use Rattle.terms.specs.Terms.{byteMode, frameMode, inLimits, bag, added, charge, rate, capacity, byOctets, charged, cost}
 use Rattle.account.specs.Account.{valid, creditAt}
 use Rattle.account.specs.Step.{judged, policed}
 use Rattle.rule.specs.Bench.{Case, termsP, byteCases, frameCases}

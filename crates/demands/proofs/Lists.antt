@@ -1,7 +1,7 @@
 -- The rule of one account with one arrival more. Assumes nothing.
 use mathlib.Core.List.{List, [], _∷_, _++_}
 use mathlib.Core.Path.{_≡_, refl}
-use Rattle.account.specs.Terms.{Terms}
+use Rattle.terms.specs.declared.Terms.{Terms}
 use Rattle.rule.specs.Bucket.{Reached}
 use Rattle.rule.specs.Rule.{Arrival, ruleStep, rulePast}
 

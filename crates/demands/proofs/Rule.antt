@@ -14,7 +14,7 @@ use Rattle.octets.specs.Lists.{only}
 use Rattle.octets.proofs.Lists.{only-more, only-same}
 use Rattle.octets.proofs.Tests.{split}
 use Rattle.frame.specs.Frame.{lengthCode}
-use Rattle.account.specs.Terms.{Terms}
+use Rattle.terms.specs.declared.Terms.{Terms}
 use Rattle.account.specs.Account.{accountOf, valid}
 use Rattle.account.specs.Step.{policed}
 use Rattle.rule.specs.Rule.{ruleArrived, rulePast}

@@ -8,7 +8,7 @@ use lib.Dec.{leb, eqb}
 use Rattle.octets.specs.Choice.{if_then_else_}
 use Rattle.octets.specs.Lists.{only}
 use Rattle.frame.specs.Frame.{linkNumber}
-use Rattle.account.specs.Terms.{Terms}
+use Rattle.terms.specs.declared.Terms.{Terms}
 use Rattle.rule.specs.Bucket.{Reached}
 use Rattle.rule.specs.Rule.{Arrival, ruleArrived, rulePast}
 use Rattle.tables.specs.Rows.{accountIn, linkIn, foundIn}

@@ -12,9 +12,9 @@ use Rattle.octets.proofs.Tests.{split}
 use Rattle.octets.specs.Runs.{octetsAt, joined, put}
 use Rattle.octets.proofs.Parts.{length-part, part-same, getD-clamped, joined-same}
 use Rattle.octets.proofs.Runs.{put-next, put-none, lay-next}
-use Rattle.account.specs.Account.{accountOf, capacityOf}
-use Rattle.account.specs.declared.Account.{Account}
-use Rattle.account.proofs.Methods.{valid-by}
+use Rattle.terms.specs.Terms.{checkedCapacity}
+use Rattle.terms.specs.declared.Terms.{Terms}
+use Rattle.terms.proofs.Methods.{capacity-kept}
 use Rattle.tables.specs.Rows.{accountOctets, linkOctets, termsAt, accountIn, rowOctets}
 use Rattle.tables.specs.Rules.{accountGood}
 use Rattle.layout.specs.Layout.{tagAndLength, dataPlace}
@@ -80,16 +80,15 @@ module _ (s d e : List ℕ) (at : ℕ) where
 
 -- ---- the capacity of an account: as the method gives it, and as the formula does
 abbrev pub methodCapacity : List ℕ → ℕ → List ℕ
-methodCapacity s i = capacityOf (accountOf (accountIn (accountFields s) i) 0 0) ∷ []
+methodCapacity s i = checkedCapacity (accountIn (accountFields s) i) ∷ []
 
-pub capacity-read : (s : List ℕ) (i at : ℕ) (a : Account) (x : ℕ) → at ≡ dataPlace i 0 → a ≡ accountOf (termsAt s at) 0 0 → x ≡ capacityOf a
-    → x ≡ capacityOf (accountOf (accountIn (accountFields s) i) 0 0)
-capacity-read s i at a x e f g = g ∙ ap capacityOf (f ∙ ap (λ (p : ℕ). accountOf (termsAt s p) 0 0) (e ∙ account-place i))
+pub capacity-read : (s : List ℕ) (i at : ℕ) (p : Terms) (x : ℕ) → at ≡ dataPlace i 0 → p ≡ termsAt s at → x ≡ checkedCapacity p
+    → x ≡ checkedCapacity (accountIn (accountFields s) i)
+capacity-read s i at p x e f g = g ∙ ap checkedCapacity (f ∙ ap (termsAt s) (e ∙ account-place i))
 
-full-capacity : (s : List ℕ) (i : ℕ) → accountGood (accountFields s) i ≡ true
-    → capacityOf (accountOf (accountIn (accountFields s) i) 0 0) ≡ fullCredit (accountFields s) i
-unfolding accountGood capacityOf
-full-capacity s i e = simp (valid-by (accountOf (accountIn (accountFields s) i) 0 0) e (omega arith))
+full-capacity : (s : List ℕ) (i : ℕ) → accountGood (accountFields s) i ≡ true → checkedCapacity (accountIn (accountFields s) i) ≡ fullCredit (accountFields s) i
+unfolding accountGood
+full-capacity s i e = sym (capacity-kept (accountIn (accountFields s) i) e)
 
 pub capacities-good : (s : List ℕ) (n : ℕ) → ((i : ℕ) → i < n → accountGood (accountFields s) i ≡ true) → joined (methodCapacity s) n ≡ capacities (accountFields s) n
 unfolding capacities

@@ -15,7 +15,7 @@ use Rattle.octets.specs.Runs.{octetsAt, joined, put}
 use Rattle.octets.proofs.Tests.{split, both}
 use Rattle.octets.proofs.Parts.{length-part, getD-part, part-same, part-octet, length-joined, joined-at}
 use Rattle.octets.proofs.Runs.{put-fits}
-use Rattle.account.specs.Terms.{capacity}
+use Rattle.terms.specs.Terms.{capacity}
 use Rattle.tables.specs.Rows.{Rows, accountOctets, linkOctets, accountTable, linkTable, accountIn, linkIn, rowOctets}
 use Rattle.tables.specs.Rules.{linkSound, numberRises, linkGood}
 use Rattle.tables.proofs.Rows.{terms-same, link-same}

@@ -7,7 +7,7 @@ use lib.ListN.{length, replicate}
 use lib.Dec.{leb, eqb}
 use Rattle.octets.specs.Choice.{if_then_else_}
 use Rattle.octets.specs.Runs.{joined, put}
-use Rattle.account.specs.Terms.{capacity}
+use Rattle.terms.specs.Terms.{capacity}
 use Rattle.tables.specs.Rows.{Rows, accountOctets, linkOctets, accountIn, rowOctets}
 use Rattle.image.specs.Read.{accountFields, linkFields, refused, readImage}
 use Rattle.image.specs.declared.Loaded.{Loaded}

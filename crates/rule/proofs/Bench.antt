@@ -1,7 +1,7 @@
 -- The bench sheet's starred cases, by computing the definitions. Assumes nothing.
 use mathlib.Core.Path.{refl}
 use Rattle.frame.specs.Frame.{lengthCode}
-use Rattle.account.specs.Terms.{inLimits, bag, added, charge, rate, capacity, byOctets, charged, cost}
+use Rattle.terms.specs.Terms.{inLimits, bag, added, charge, rate, capacity, byOctets, charged, cost}
 use Rattle.account.specs.Account.{valid, creditAt, capacityOf, costOf, toppedUp}
 use Rattle.account.specs.Step.{judged, policed}
 use Rattle.rule.specs.Bucket.{lastTime, holdsFrom, ruleHolds, costs}

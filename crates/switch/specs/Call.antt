@@ -74,7 +74,7 @@ stepOn l q = record { says = withMask (l .mask) (q .says); credit = q .account .
 -- 10 where the link's row or the account breaks a rule or the credit is above the capacity; then 5, 6 and 7; then the step
 unfoldable pub decided : Link → ℕ → Account → ℕ → ℕ → ℕ → Decided
 decided l used a n port t =
-    if not (linkSound l used (a .smax) && valid a) then kept 10 a
+    if not (linkSound l used (a .terms .smax) && valid a) then kept 10 a
     else if not (eqb (portCode l n port) 0) then kept (portCode l n port) a
     else stepOn l (policed a n t)
 

@@ -12,7 +12,7 @@ use Rattle.octets.proofs.Numbers.{number-shift}
 use Rattle.octets.specs.Runs.{octetsAt, put}
 use Rattle.octets.proofs.Parts.{getD-clamped, getD-within, length-part, getD-part, part-octet}
 use Rattle.octets.proofs.Runs.{getD-put}
-use Rattle.account.specs.Terms.{Terms}
+use Rattle.terms.specs.declared.Terms.{Terms}
 use Rattle.tables.specs.Leading.{leading}
 use Rattle.tables.specs.Rows.{accountOctets, linkOctets, termsAt, linkAt, tableOf, linksInUse, otherNumber, foundIn}
 use Rattle.tables.specs.declared.Link.{Link}

@@ -8,7 +8,8 @@ use Rattle.octets.proofs.Tests.{split, both}
 use Rattle.frame.specs.Limits.{smallestFrame}
 use lib.ListN.{length}
 use Rattle.octets.specs.Numbers.{numberAt}
-use Rattle.account.specs.Terms.{Terms, inLimits}
+use Rattle.terms.specs.Terms.{inLimits}
+use Rattle.terms.specs.declared.Terms.{Terms}
 use Rattle.tables.specs.Rows.{Rows, termsAt, linkAt, accountIn, linkIn}
 use Rattle.tables.specs.Rules.{portCount, portsSound, sizesSound, linkSound, accountGood, numberRises, linkGood}
 use Rattle.tables.specs.declared.Link.{Link}

@@ -5,7 +5,7 @@ use mathlib.Core.Bool.{Bool, true, not, _&&_}
 use lib.Dec.{ltb, leb, eqb}
 use Rattle.octets.specs.Choice.{if_then_else_}
 use Rattle.frame.specs.Limits.{smallestFrame}
-use Rattle.account.specs.Terms.{inLimits}
+use Rattle.terms.specs.Terms.{inLimits}
 use Rattle.tables.specs.Rows.{Rows, accountIn, linkIn}
 use Rattle.tables.specs.declared.Link.{Link}
 

@@ -12,7 +12,8 @@ use Rattle.octets.specs.Numbers.{numberAt, octetsOf}
 use Rattle.octets.specs.Runs.{octetsAt, put}
 use Rattle.octets.proofs.Numbers.{number-shift, number-octets}
 use Rattle.octets.proofs.Parts.{length-part, getD-part, part-is, part-none, part-join, part-joined, part-take, joined-same, octets-number}
-use Rattle.account.specs.Terms.{Terms, capacity}
+use Rattle.terms.specs.Terms.{capacity}
+use Rattle.terms.specs.declared.Terms.{Terms}
 use Rattle.tables.specs.Rows.{Config, accountOctets, linkOctets, accountTable, linkTable, accountIn, linkIn, rowOctets, configOf}
 use Rattle.tables.specs.Rules.{accountGood, linkGood}
 use Rattle.tables.proofs.Leading.{leading-before, leading-is}

@@ -5,15 +5,10 @@ use mathlib.Core.Bool.{Bool, _&&_, _||_}
 use lib.Dec.{leb, eqb}
 use Rattle.octets.specs.Choice.{if_then_else_}
 use Rattle.frame.specs.Limits.{smallestFrame, largestFrame}
+use Rattle.frame.specs.Frame.{lengthCode}
+use Rattle.terms.specs.declared.Terms.{Terms}
 
 -- Smax in octets, k of the BAG, jitter in microseconds, mode
-pub record Terms : Type 0 where
-  pub smax : ℕ
-  pub k : ℕ
-  pub jitter : ℕ
-  pub mode : ℕ
-
--- the same, value by value
 abbrev pub termsWith : ℕ → ℕ → ℕ → ℕ → Terms
 termsWith smax k jitter mode = record { smax = smax; k = k; jitter = jitter; mode = mode }
 
@@ -85,3 +80,11 @@ charged p n = charge (p .mode) (if byOctets (p .mode) then n else p .smax)
 -- Cost: that times BAG
 unfoldable pub cost : Terms → ℕ → ℕ
 cost p n = charged p n * bag (p .k)
+
+-- ---- the methods: 0 where the values break a limit; the cost also where no frame has n octets
+
+unfoldable pub checkedCapacity : Terms → ℕ
+checkedCapacity p = if inLimits p then capacity p else 0
+
+unfoldable pub checkedCost : Terms → ℕ → ℕ
+checkedCost p n = if eqb (lengthCode n) 0 && inLimits p then cost p n else 0

@@ -1,8 +1,8 @@
 -- `rate`: the charge of Smax. Assumes nothing.
-use Rattle.account.specs.Terms.{rate}
+use Rattle.terms.specs.Terms.{rate}
 use borrow.Author.Needs.{needs}
-use Rattle.account.proofs.Account.rate.Statement.{statement}
-use Rattle.account.proofs.Account.rate.Tie as tie
+use Rattle.terms.proofs.Terms.rate.Statement.{statement}
+use Rattle.terms.proofs.Terms.rate.Tie as tie
 
 charge-requires : tie.Need-charge-requires
 charge-requires c κs = search needs

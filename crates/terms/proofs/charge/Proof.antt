@@ -1,8 +1,8 @@
 -- `charge`: with the line octets or without, by mode. Assumes nothing.
-use Rattle.account.proofs.Limits.{charge-plain, charge-lined}
+use Rattle.terms.proofs.Limits.{charge-plain, charge-lined}
 use borrow.Author.Needs.{needs}
-use Rattle.account.proofs.charge.Statement.{statement}
-use Rattle.account.proofs.charge.Tie as tie
+use Rattle.terms.proofs.charge.Statement.{statement}
+use Rattle.terms.proofs.charge.Tie as tie
 
 returns : tie.Need-returns
 returns c = charge-plain _ _ (c .if1 .taken)

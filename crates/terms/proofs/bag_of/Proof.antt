@@ -2,10 +2,10 @@
 use native.Mathlib.Omega.{arith}
 use lib.Dec.{lit<}
 use lib.Pow.{shl-exact}
-use Rattle.account.specs.Terms.{bag}
+use Rattle.terms.specs.Terms.{bag}
 use borrow.Author.Needs.{needs}
-use Rattle.account.proofs.bag_of.Statement.{statement}
-use Rattle.account.proofs.bag_of.Tie as tie
+use Rattle.terms.proofs.bag_of.Statement.{statement}
+use Rattle.terms.proofs.bag_of.Tie as tie
 
 shl-result : tie.Need-shl-result
 shl-result c = search needs

@@ -1,7 +1,7 @@
 -- `by_octets`: either byte mode. Assumes nothing.
-use Rattle.account.proofs.Limits.{by-octets-bytes, by-octets-line}
-use Rattle.account.proofs.by_octets.Statement.{statement}
-use Rattle.account.proofs.by_octets.Tie as tie
+use Rattle.terms.proofs.Limits.{by-octets-bytes, by-octets-line}
+use Rattle.terms.proofs.by_octets.Statement.{statement}
+use Rattle.terms.proofs.by_octets.Tie as tie
 
 returns : tie.Need-returns
 returns c = by-octets-bytes _ (c .if1 .taken)

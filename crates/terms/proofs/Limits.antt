@@ -10,8 +10,9 @@ use lib.Pow.{pow-mono}
 use borrow.Author.Tests.{leb-true, lt-leb, le-leb, eq-eqb, ne-eqb}
 use Rattle.octets.proofs.Tests.{split, both}
 use Rattle.frame.specs.Limits.{smallestFrame, largestFrame}
-use Rattle.account.specs.Terms.{Terms, largestK, largestJitter, byteMode, lineByteMode, lineFrameMode, inLimits, shortestBag, bag}
-use Rattle.account.specs.Terms.{lineOctets, added, charge, rate, capacity, byOctets, charged, cost}
+use Rattle.terms.specs.declared.Terms.{Terms}
+use Rattle.terms.specs.Terms.{largestK, largestJitter, byteMode, lineByteMode, lineFrameMode, inLimits, shortestBag, bag}
+use Rattle.terms.specs.Terms.{lineOctets, added, charge, rate, capacity, byOctets, charged, cost}
 
 -- ---- the limits, one by one
 pub record Limits (p : Terms) : Type 0 where
@@ -197,20 +198,3 @@ module _ (p : Terms) (n : ℕ) (b : Bool) (e : b ≡ byOctets (p .mode)) (x : �
   pub charged-smax : b ≡ false → x ≡ rate p → x ≡ charged p n
   unfolding rate charged
   charged-smax h f = simp (sym e ∙ h) f
-
--- ---- the products, as the code takes them
-module _ (p : Terms) (n x b : ℕ) (e : x ≡ charged p n) (f : b ≡ bag (p .k)) where
-  pub product-is : x * b ≡ cost p n
-  unfolding cost
-  product-is = rw (e, f)
-
-  pub product-fits : Limits p → n ≤ largestFrame → x * b < 2 ^ 32
-  product-fits l h = omega (arith, product-is, cost-high p l n h)
-
-module _ (p : Terms) (r b : ℕ) (e : r ≡ rate p) (f : b ≡ bag (p .k)) where
-  pub full-is : r * (b + p .jitter) ≡ capacity p
-  unfolding capacity
-  full-is = rw (e, f)
-
-  pub full-fits : Limits p → r * (b + p .jitter) < 2 ^ 32
-  full-fits l = omega (arith, full-is, capacity-high p l)
