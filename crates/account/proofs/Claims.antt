@@ -1,56 +1,30 @@
 -- What holds of the policing step and the methods for any account. Assumes nothing.
-use Prim.Native.Nat.{ℕ, _+_, _*_, _-_, _≤_, _<_}
+use Prim.Native.Nat.{ℕ, _-_, _≤_, _<_}
 use mathlib.Core.Bool.{true, cond}
 use mathlib.Core.Logic.{_⊎_, ⊎-elim}
 use mathlib.Core.Option.{Option, none, some}
 use mathlib.Core.Path.{_≡_, refl, sym, ap, _∙_}
 use mathlib.Core.List.{[], _∷_, List·Memᴰ, List·Memᴰ·head, List·Memᴰ·tail}
-use native.Mathlib.Nat.{le-trans, add-zero}
 use native.Mathlib.Omega.{arith}
-use lib.Dec.{eqb, lit≤}
-use Rattle.octets.proofs.Tests.{neither}
+use lib.Dec.{eqb}
+use Rattle.lists.proofs.Tests.{neither}
 use Rattle.frame.specs.Frame.{lengthCode}
 use Rattle.frame.proofs.Frame.{within, by-length}
-use Rattle.account.specs.Terms.{inLimits, bag, added, charge, rate, capacity, byOctets, charged, cost}
+use Rattle.terms.specs.Terms.{capacity, cost}
+use Rattle.terms.proofs.Limits.{limits, cost-low, cost-capacity}
 use Rattle.account.specs.Account.{termsOf, holding, valid, creditAt, costOf, toppedUp, debited}
 use Rattle.account.specs.Step.{Told, told, Stepped, stepped, policed}
-use Rattle.account.specs.Claims.{FormulasByMode, CapacityLargest, CostLargest, TermsLimits, ToldApart, StepAnswers, RefusedStepKeeps, ShortStepTopsUp}
+use Rattle.account.specs.Claims.{ValidLimits, ToldApart, StepAnswers, RefusedStepKeeps, ShortStepTopsUp}
 use Rattle.account.specs.Claims.{ForwardedStepTakesCost, StepIsTopUpAndDebit, FullTopUp, StepBelowCapacity, Tells, RefusedStepTells, Rest, RefusedMethodsRest}
 use Rattle.account.specs.declared.Account.{Account}
 use Rattle.account.specs.declared.Outcome.{Outcome}
 use Rattle.account.specs.declared.Outcome.the-variants.{Forwarded, Short, Late, Refused}
-use Rattle.account.proofs.Limits.{limits, in-limits-by, added-none, capacity-with, capacity-high, cost-high, cost-low, cost-capacity}
 use Rattle.account.proofs.Methods.{valid-limits, valid-credit, valid-by, capacity-not, credit-at-high, brought-full, top-up-invalid, top-up-late, top-up-valid}
 use Rattle.account.proofs.Methods.{cost-refused, cost-invalid, cost-valid, debit-enough, debit-short}
 use Rattle.account.proofs.Step.{by-step}
 
-pub formulas-by-mode : FormulasByMode
-unfolding added charge rate capacity byOctets charged cost
-formulas-by-mode s k j =
-    let plain : (c w : ℕ) → (c + 0) * w ≡ c * w = λ c w. ap (λ (d : ℕ). d * w) (add-zero c) in
-    ((add-zero s, plain s _, λ n. plain n _), (add-zero s, plain s _, λ n. plain s _), (refl, refl, λ n. refl), (refl, refl, λ n. refl))
-
-pub capacity-largest : CapacityLargest
-unfolding inLimits bag added charge rate capacity
-capacity-largest = (
-  λ p ok. le-trans (capacity-high p (limits p ok)) (lit≤ tt),
-  λ p ok h. le-trans (capacity-with p (limits p ok)) (rw (added-none (p .mode) (omega arith)) (lit≤ tt)),
-  refl,
-  refl,
-)
-
-pub cost-largest : CostLargest
-unfolding bag added charge rate byOctets charged cost
-cost-largest = (λ p n ok h. le-trans (cost-high p (limits p ok) n h) (lit≤ tt), refl)
-
-pub terms-limits : TermsLimits
-terms-limits = (
-  λ p. (
-    λ e. let l = limits p e in (l .smax-low, l .smax-high, l .k-high, l .jitter-high, l .mode-high),
-    λ h. in-limits-by p (record { smax-low = h .0; smax-high = h .1; k-high = h .2; jitter-high = h .3; mode-high = h .4 }),
-  ),
-  λ a. (λ v. (valid-limits a v, valid-credit a v), λ h. valid-by a (h .0) (h .1)),
-)
+pub valid-within : ValidLimits
+valid-within a = (λ v. (valid-limits a v, valid-credit a v), λ h. valid-by a (h .0) (h .1))
 
 -- an answer, from what it tells
 heard : Told → Outcome
@@ -184,8 +158,8 @@ refused-methods-rest a n t =
     by-step a n t (λ q. Rest a n t (q .says .code))
     (λ m. length-refuses n m (Rest a n t) (by-octets 1 m (λ e. omega arith) (λ e. omega arith)) (by-octets 2 m (λ e. omega arith) (λ e. omega arith)))
     (λ z v. (
-      λ _. sym (cost-invalid a n z v),
-      λ _. (sym (capacity-not a v), sym (cost-invalid a n z v), sym (top-up-invalid a t v)),
+      λ _. sym (cost-invalid a n v),
+      λ _. (sym (capacity-not a v), sym (cost-invalid a n v), sym (top-up-invalid a t v)),
       λ e. absurd (omega arith),
     ))
     (λ _ v l. (neither 8 1 2 (λ e. omega arith) (λ e. omega arith), λ e. absurd (omega arith), λ _. sym (top-up-late a t v l)))

@@ -1,17 +1,18 @@
 -- Laws of an account's methods, case by case. Assumes nothing.
 use Prim.Native.Nat.{ℕ, _+_, _-_, _*_, _≤_, _<_, min}
-use mathlib.Core.Bool.{Bool, true, false, not, _&&_}
+use mathlib.Core.Bool.{Bool, true, false, _&&_}
 use mathlib.Core.Path.{_≡_, sym, ap, ap₂, _∙_}
 use native.Mathlib.Nat.{min-le-left}
 use native.Mathlib.Omega.{arith}
-use lib.Dec.{leb}
-use borrow.Author.Tests.{leb-true, le-leb, lt-leb, eq-eqb, ne-eqb, not-true, not-false}
-use Rattle.octets.proofs.Tests.{split, both}
+use lib.Dec.{leb, eqb}
+use borrow.Author.Tests.{leb-true, le-leb, lt-leb, eq-eqb, ne-eqb}
+use Rattle.lists.proofs.Tests.{split, both}
 use Rattle.frame.specs.Frame.{lengthCode}
-use Rattle.account.specs.Terms.{inLimits, rate, capacity, cost}
+use Rattle.terms.specs.Terms.{inLimits, rate, capacity, cost, checkedCapacity, checkedCost}
+use Rattle.terms.proofs.Limits.{limits, capacity-low}
+use Rattle.terms.proofs.Methods.{capacity-broken, capacity-kept}
 use Rattle.account.specs.Account.{termsOf, holding, valid, creditAt, capacityOf, costOf, toppedUp, debited}
 use Rattle.account.specs.declared.Account.{Account}
-use Rattle.account.proofs.Limits.{limits, capacity-low}
 
 module _ (a : Account) where
   -- ---- a valid account
@@ -36,21 +37,27 @@ module _ (a : Account) where
   unfolding capacityOf
   capacity-is v = simp v
 
-  module _ (r : Bool) (e : r ≡ inLimits (termsOf a)) where
-    pub out-of-limits : not r ≡ true → 0 ≡ capacityOf a
+  -- by the capacity of the values, 0 where these break a limit
+  module _ (full : ℕ) (f : full ≡ checkedCapacity (termsOf a)) where
+    kept-full : inLimits (termsOf a) ≡ true → full ≡ capacity (termsOf a)
+    kept-full e = f ∙ sym (capacity-kept (termsOf a) e)
+
+    broken-none : inLimits (termsOf a) ≡ false → 0 ≡ capacityOf a
     unfolding valid
-    out-of-limits h = capacity-not (ap (λ (b : Bool). b && leb (a .credit) (capacity (termsOf a))) (sym e ∙ not-true r h))
+    broken-none e = capacity-not (ap (λ (b : Bool). b && leb (a .credit) (capacity (termsOf a))) e)
 
-    pub within-limits : not r ≡ false → inLimits (termsOf a) ≡ true
-    within-limits h = sym e ∙ not-false r h
-
-  module _ (e : inLimits (termsOf a) ≡ true) (full : ℕ) (f : full ≡ capacity (termsOf a)) where
     pub credit-over : full < a .credit → 0 ≡ capacityOf a
     unfolding valid
-    credit-over h = capacity-not (ap₂ _&&_ e (lt-leb (a .credit) (capacity (termsOf a)) (rw f at h)))
+    credit-over h =
+        split (inLimits (termsOf a))
+        (λ e. capacity-not (ap₂ _&&_ e (lt-leb (a .credit) (capacity (termsOf a)) (rw (kept-full e) at h))))
+        broken-none
 
     pub credit-within : a .credit ≤ full → full ≡ capacityOf a
-    credit-within h = f ∙ capacity-is (valid-by e (rw f at h))
+    credit-within h =
+        split (inLimits (termsOf a))
+        (λ e. kept-full e ∙ capacity-is (valid-by e (rw (kept-full e) at h)))
+        (λ e. f ∙ sym (capacity-broken (termsOf a) e) ∙ broken-none e)
 
   -- ---- what the capacity's answer says
   module _ (c : ℕ) (e : c ≡ capacityOf a) where
@@ -116,14 +123,17 @@ module _ (a : Account) where
     unfolding costOf
     cost-refused r e h = simp (ne-eqb (lengthCode n) 0 (rw e at h))
 
-    module _ (e : lengthCode n ≡ 0) where
-      pub cost-invalid : valid a ≡ false → 0 ≡ costOf a n
-      unfolding costOf
-      cost-invalid v = simp (eq-eqb _ _ e, v)
+    pub cost-invalid : valid a ≡ false → 0 ≡ costOf a n
+    unfolding costOf
+    cost-invalid v = split (eqb (lengthCode n) 0) (λ z. simp (z, v)) (λ z. simp z)
 
-      pub cost-valid : valid a ≡ true → cost (termsOf a) n ≡ costOf a n
-      unfolding costOf
-      cost-valid v = simp (eq-eqb _ _ e, v)
+    pub cost-valid : lengthCode n ≡ 0 → valid a ≡ true → cost (termsOf a) n ≡ costOf a n
+    unfolding costOf
+    cost-valid z v = simp (eq-eqb _ _ z, v)
+
+    pub cost-checked : valid a ≡ true → checkedCost (termsOf a) n ≡ costOf a n
+    unfolding checkedCost costOf
+    cost-checked v = simp (v, valid-limits v)
 
     module _ (x : ℕ) (e : x ≡ costOf a n) where
       pub debit-short : a .credit < x → a ≡ debited a n

@@ -6,7 +6,7 @@ use native.Mathlib.Nat.{mul-le-mul, mul-le-mul-left, mul-le-mul-right, zero-mul,
 use native.Mathlib.Omega.{arith}
 use lib.Dec.{leb}
 use borrow.Author.Tests.{leb-true, leb-false}
-use Rattle.octets.proofs.Tests.{split}
+use Rattle.lists.proofs.Tests.{split}
 
 -- any rate but 0 gains 2 ^ 32 or more in that time
 long-gain : (rate counted capacity : ℕ) → counted ≡ 2 ^ 32 → capacity < 2 ^ 32 → rate * counted < capacity → rate ≡ 0

@@ -4,9 +4,9 @@ use mathlib.Core.Bool.{true, false}
 use mathlib.Core.Path.{_≡_, refl}
 use lib.Dec.{ltb, leb, eqb}
 use borrow.Author.Tests.{lt-ltb, le-ltb, lt-leb, le-leb, eq-eqb, ne-eqb, eqb-true, eqb-false, ltb-true, ltb-false, leb-true, leb-false}
-use Rattle.octets.proofs.Tests.{split}
+use Rattle.lists.proofs.Tests.{split}
 use Rattle.frame.specs.Frame.{lengthCode}
-use Rattle.account.specs.Terms.{cost}
+use Rattle.terms.specs.Terms.{cost}
 use Rattle.account.specs.Account.{termsOf, holding, valid, creditAt}
 use Rattle.account.specs.Step.{Stepped, stepped, judged, policed}
 use Rattle.account.specs.declared.Account.{Account}

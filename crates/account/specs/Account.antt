@@ -2,17 +2,18 @@
 use Prim.Native.Nat.{ℕ, _+_, _-_, _*_, min}
 use mathlib.Core.Bool.{Bool, _&&_}
 use lib.Dec.{leb, eqb}
-use Rattle.octets.specs.Choice.{if_then_else_}
+use Rattle.lists.specs.Choice.{if_then_else_}
 use Rattle.frame.specs.Frame.{lengthCode}
-use Rattle.account.specs.Terms.{Terms, inLimits, rate, capacity, cost}
+use Rattle.terms.specs.Terms.{inLimits, rate, capacity, cost}
+use Rattle.terms.specs.declared.Terms.{Terms}
 use Rattle.account.specs.declared.Account.{Account}
 
 -- the configured values of an account, and the account of such values with a credit and a last time
 abbrev pub termsOf : Account → Terms
-termsOf a = record { smax = a .smax; k = a .k; jitter = a .jitter; mode = a .mode }
+termsOf a = a .terms
 
 abbrev pub accountOf : Terms → ℕ → ℕ → Account
-accountOf p c t = record { smax = p .smax; k = p .k; jitter = p .jitter; mode = p .mode; credit = c; last = t }
+accountOf p c t = record { terms = p; credit = c; last = t }
 
 -- the account when it holds credit c and its last time is t
 abbrev pub holding : Account → ℕ → ℕ → Account

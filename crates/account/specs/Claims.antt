@@ -1,57 +1,20 @@
 -- What holds of the policing step and the methods for any account whatsoever (document 01, "Credit, in whole units" and "Codes,
--- in order of checking"; document 02, Q-2 and Q-3); proved in proofs/Claims.antt.
-use Prim.Native.Nat.{ℕ, _+_, _*_, _-_, _≤_, _<_}
+-- in order of checking"; document 02, Q-2); proved in proofs/Claims.antt.
+use Prim.Native.Nat.{ℕ, _-_, _≤_, _<_}
 use mathlib.Core.Bool.{true}
 use mathlib.Core.Logic.{_⊎_, _↔_}
 use mathlib.Core.Option.{none, some}
 use mathlib.Core.Path.{_≡_}
-use mathlib.Core.List.{[], _∷_, map, List·Memᴰ}
-use Rattle.account.specs.Terms.{Terms, termsWith, inLimits, bag, rate, capacity, cost}
+use mathlib.Core.List.{[], _∷_, List·Memᴰ}
+use Rattle.terms.specs.Terms.{inLimits, capacity, cost}
 use Rattle.account.specs.Account.{termsOf, holding, valid, creditAt, capacityOf, costOf, toppedUp, debited}
 use Rattle.account.specs.Step.{Told, told, policed}
 use Rattle.account.specs.declared.Account.{Account}
 use Rattle.account.specs.declared.Outcome.{Outcome}
 
--- the formulas of a mode, given the octets that count as Smax and those that count for a frame of n
-abbrev pub Formulas : Terms → ℕ → (ℕ → ℕ) → Type 0
-Formulas p smax octets =
-    (rate p ≡ smax)
-    × (capacity p ≡ smax * (bag (p .k) + p .jitter))
-    × ((n : ℕ) → cost p n ≡ octets n * bag (p .k))
-
--- byte mode and frame mode, then both with line octets: 20 more for Smax and for the frame (Q-3)
-abbrev pub FormulasByMode : Type 0
-FormulasByMode =
-    (s k j : ℕ)
-    → Formulas (termsWith s k j 0) s (λ n. n)
-    × Formulas (termsWith s k j 1) s (λ n. s)
-    × Formulas (termsWith s k j 2) (s + 20) (λ n. n + 20)
-    × Formulas (termsWith s k j 3) (s + 20) (λ n. s + 20)
-
--- the largest capacity, and values that have it; without line octets it is document 01's
-abbrev pub largestTerms : ℕ → Terms
-largestTerms mode = termsWith 1518 7 10000 mode
-
-abbrev pub CapacityLargest : Type 0
-CapacityLargest =
-    ((p : Terms) → inLimits p ≡ true → capacity p ≤ 212244000)
-    × ((p : Terms) → inLimits p ≡ true → p .mode ≤ 1 → capacity p ≤ 209484000)
-    × (map inLimits (map largestTerms (0 ∷ 1 ∷ 2 ∷ 3 ∷ [])) ≡ true ∷ true ∷ true ∷ true ∷ [])
-    × (map capacity (map largestTerms (0 ∷ 1 ∷ 2 ∷ 3 ∷ [])) ≡ 209484000 ∷ 209484000 ∷ 212244000 ∷ 212244000 ∷ [])
-
--- the largest cost of a frame
-abbrev pub CostLargest : Type 0
-CostLargest =
-    ((p : Terms) (n : ℕ) → inLimits p ≡ true → n ≤ 1518 → cost p n ≤ 196864000)
-    × (map (λ m. cost (largestTerms m) 1518) (0 ∷ 1 ∷ 2 ∷ 3 ∷ []) ≡ 194304000 ∷ 194304000 ∷ 196864000 ∷ 196864000 ∷ [])
-
--- the limits exactly: each is one of its value alone, and Smax has the same in every mode. A valid account keeps them and holds at
--- most its capacity
-abbrev pub TermsLimits : Type 0
-TermsLimits =
-    ((p : Terms)
-    → (inLimits p ≡ true) ↔ ((64 ≤ p .smax) × (p .smax ≤ 1518) × (p .k ≤ 7) × (p .jitter ≤ 10000) × (p .mode ≤ 3)))
-    × ((a : Account) → (valid a ≡ true) ↔ ((inLimits (termsOf a) ≡ true) × (a .credit ≤ capacity (termsOf a))))
+-- a valid account has values within limits and holds at most its capacity
+abbrev pub ValidLimits : Type 0
+ValidLimits = (a : Account) → (valid a ≡ true) ↔ ((inLimits (termsOf a) ≡ true) × (a .credit ≤ capacity (termsOf a)))
 
 -- two answers that tell the same are the same
 abbrev pub ToldApart : Type 0
@@ -98,7 +61,7 @@ FullTopUp =
 -- a step of at most Smax octets, as every frame call's is, leaves less than the capacity where it answers 0 or 9
 abbrev pub StepBelowCapacity : Type 0
 StepBelowCapacity =
-    (a : Account) (n t : ℕ) → n ≤ a .smax → (policed a n t .says .code ≡ 0) ⊎ (policed a n t .says .code ≡ 9)
+    (a : Account) (n t : ℕ) → n ≤ termsOf a .smax → (policed a n t .says .code ≡ 0) ⊎ (policed a n t .says .code ≡ 9)
     → policed a n t .account .credit < capacity (termsOf a)
 
 -- 8 tells the credit held, of a time before the last; 1, 2 and 10 tell no credit

@@ -1,4 +1,3 @@
 pub mod Account
 pub mod Claims
 pub mod Step
-pub mod Terms

@@ -3,9 +3,9 @@ use Prim.Native.Nat.{ℕ, _-_}
 use mathlib.Core.Bool.{not}
 use mathlib.Core.Option.{Option, none, some}
 use lib.Dec.{ltb, leb, eqb}
-use Rattle.octets.specs.Choice.{if_then_else_}
+use Rattle.lists.specs.Choice.{if_then_else_}
 use Rattle.frame.specs.Frame.{lengthCode}
-use Rattle.account.specs.Terms.{cost}
+use Rattle.terms.specs.Terms.{cost}
 use Rattle.account.specs.Account.{termsOf, holding, valid, creditAt}
 use Rattle.account.specs.declared.Account.{Account}
 use Rattle.account.specs.declared.Policed.{Policed}

@@ -2,31 +2,11 @@
 // microseconds of the BAG, so no sum is ever rounded. Accounts are taken and given by value; `police_in_place` alone
 // changes a record that is lent.
 ghost use mathlib.Core.Path.{_≡_};
-ghost use mathlib.Core.Bool.{true};
 ghost use Prim.Native.Nat.{_+_, _*_, _≤_, min};
-ghost use Rattle.frame.specs.Limits.{largestFrame};
-ghost use Rattle.account.specs.Terms.{largestK, bag, inLimits, charge, rate, capacity, byOctets, charged, cost};
+ghost use Rattle.terms.specs.Terms.{capacity};
 ghost use Rattle.account.specs.Account.{termsOf, holding, creditAt, capacityOf, costOf, toppedUp, debited};
 ghost use Rattle.account.specs.Step.{stepped, steppedOf, policed};
-
-// The BAG of k 0, in microseconds.
-const SHORTEST_BAG: u32 = 1000;
-
-// The limits of k and of the jitter in microseconds; those of Smax are a frame's.
-const LARGEST_K: u8 = 7;
-
-const LARGEST_JITTER: u16 = 10000;
-
-// The modes. In byte mode a frame costs by its own octets, in frame mode, 1, by Smax; from `LINE_BYTE_MODE` on, line
-// octets are counted with them. No mode is above the last.
-const BYTE_MODE: u8 = 0;
-
-const LINE_BYTE_MODE: u8 = 2;
-
-const LINE_FRAME_MODE: u8 = 3;
-
-// What the line takes beside a frame's octets: preamble, start delimiter, and the gap between frames.
-const LINE_OCTETS: u32 = 20;
+use terms::Terms;
 
 // An elapsed time in which any rate but 0 adds more than a credit can hold.
 const LONG_ELAPSED: u64 = 4294967296;
@@ -34,13 +14,9 @@ const LONG_ELAPSED: u64 = 4294967296;
 // Code 10.
 pub const UNSOUND: u8 = 10;
 
-// Configured values (Smax in octets, BAG of 2^k milliseconds, jitter in microseconds, mode), the credit, and the time
-// of the last frame that reached the account.
+// The configured values, the credit, and the time of the last frame that reached the account.
 pub struct Account {
-    pub smax: u16,
-    pub k: u8,
-    pub jitter: u16,
-    pub mode: u8,
+    pub terms: Terms,
     pub credit: u32,
     pub last: u64,
 }
@@ -58,14 +34,6 @@ pub enum Outcome {
 pub struct Policed {
     pub outcome: Outcome,
     pub account: Account,
-}
-
-// The bandwidth allocation gap in microseconds.
-fn bag_of(k: u8) -> u32
-    requires { ⌜ k ≤ largestK ⌝ }
-    ensures { λ r. ⌜ r ≡ bag k ⌝ }
-{
-    SHORTEST_BAG << k
 }
 
 // The shorter of two times.
@@ -88,77 +56,13 @@ fn refilled(capacity: u32, credit: u32, rate: u32, elapsed: u64) -> u32
     held as u32
 }
 
-// What is charged for so many octets, by mode.
-fn charge(mode: u8, octets: u16) -> u32
-    ensures { λ r. ⌜ r ≡ charge mode octets ⌝ }
-{
-    if mode < LINE_BYTE_MODE {
-        return octets as u32;
-    }
-    octets as u32 + LINE_OCTETS
-}
-
-// Whether the mode charges a frame by its own octets.
-fn by_octets(mode: u8) -> bool
-    ensures { λ r. ⌜ r ≡ byOctets mode ⌝ }
-{
-    if mode == BYTE_MODE {
-        return true;
-    }
-    mode == LINE_BYTE_MODE
-}
-
 impl Account {
-    // Whether the configured values keep their limits.
-    pub fn in_limits(self) -> bool
-        ensures { λ r. ⌜ r ≡ inLimits (termsOf self) ⌝ }
-    {
-        if (self.smax as usize) < frame::SMALLEST_FRAME {
-            return false;
-        }
-        if frame::LARGEST_FRAME < self.smax as usize {
-            return false;
-        }
-        if LARGEST_K < self.k {
-            return false;
-        }
-        if LARGEST_JITTER < self.jitter {
-            return false;
-        }
-        self.mode <= LINE_FRAME_MODE
-    }
-
-    // What a microsecond adds to the credit: the charge of Smax.
-    fn rate(self) -> u32
-        ensures { λ r. ⌜ r ≡ rate (termsOf self) ⌝ }
-    {
-        charge(self.mode, self.smax)
-    }
-
-    // What is charged for a frame: its own octets, or Smax.
-    fn charged(self, octets: u16) -> u32
-        ensures { λ r. ⌜ r ≡ charged (termsOf self) octets ⌝ }
-    {
-        if by_octets(self.mode) {
-            return charge(self.mode, octets);
-        }
-        self.rate()
-    }
-
-    // The cost of a frame that the step doesn't refuse.
-    fn frame_cost(self, octets: usize) -> u32
-        requires { ⌜ inLimits (termsOf self) ≡ true ⌝ ∗ ⌜ octets ≤ largestFrame ⌝ }
-        ensures { λ r. ⌜ r ≡ cost (termsOf self) octets ⌝ }
-    {
-        self.charged(octets as u16) * bag_of(self.k)
-    }
-
     // The topped-up credit at a time that is not before the last; `full` is the account's capacity.
     fn credit_at(self, full: u32, time: u64) -> u32
         requires { ⌜ full ≡ capacity (termsOf self) ⌝ ∗ ⌜ self .last ≤ time ⌝ }
         ensures { λ r. ⌜ r ≡ creditAt self time ⌝ }
     {
-        refilled(full, self.credit, self.rate(), time - self.last)
+        refilled(full, self.credit, self.terms.rate(), time - self.last)
     }
 
     // The account with another credit and last time.
@@ -188,10 +92,7 @@ impl Account {
     pub fn capacity(self) -> u32
         ensures { λ r. ⌜ r ≡ capacityOf self ⌝ }
     {
-        if !self.in_limits() {
-            return 0;
-        }
-        let full = self.rate() * (bag_of(self.k) + self.jitter as u32);
+        let full = self.terms.capacity();
         if full < self.credit {
             return 0;
         }
@@ -202,13 +103,10 @@ impl Account {
     pub fn cost(self, octets: usize) -> u32
         ensures { λ r. ⌜ r ≡ costOf self octets ⌝ }
     {
-        if frame::length_code(octets) != 0 {
-            return 0;
-        }
         if self.capacity() == 0 {
             return 0;
         }
-        self.frame_cost(octets)
+        self.terms.cost(octets)
     }
 
     // The account brought to a time; unchanged where the policing step refuses the account or the time.
@@ -263,7 +161,8 @@ impl Account {
         }
         let topped = self.brought_to(capacity, time);
         let held = topped.credit;
-        let cost = self.frame_cost(octets);
+        let terms = self.terms;
+        let cost = terms.cost(octets);
         if held < cost {
             return Policed {
                 outcome: Outcome::Short(held),

@@ -10,11 +10,11 @@ use Rattle.lists.specs.History
 use Rattle.octets.specs.Numbers.{numberAt}
 use Rattle.octets.specs.Runs.{octetsAt, joined}
 use Rattle.frame.specs.Frame.{lengthCode}
-use Rattle.account.specs.Terms.{byteMode, frameMode, inLimits, bag, added, charge, rate, capacity, byOctets, charged, cost}
+use Rattle.terms.specs.Terms.{byteMode, frameMode, inLimits, bag, added, charge, rate, capacity, byOctets, charged, cost}
 use Rattle.account.specs.Account.{valid, creditAt}
 use Rattle.account.specs.Step.{judged, policed}
 use Rattle.rule.specs.Bench.{Case, termsP, byteCases, frameCases}
-use Rattle.octets.specs.Leading.{leading}
+use Rattle.lists.specs.Leading.{leading}
 use Rattle.rows.specs.Rows.{foundIn}
 use Rattle.tables.specs.Rows.{Config, termsAt, linkAt, accountIn}
 use Rattle.tables.specs.Rules.{portsSound, sizesSound, linkSound, accountGood, numberRises, linkGood}

@@ -1,7 +1,8 @@
 -- The three demands, from the claims that they gather. Assumes nothing.
 use Rattle.octets.proofs.Claims.{reads-back, writes-back}
 use Rattle.frame.proofs.Claims.{length-limits, payload-length, reading-answers, reading-refused}
-use Rattle.account.proofs.Claims.{capacity-largest, cost-largest, formulas-by-mode, forwarded-step-takes-cost, refused-methods-rest, refused-step-keeps, refused-step-tells, short-step-tops-up, step-answers, step-is-top-up-and-debit, terms-limits, told-apart}
+use Rattle.terms.proofs.Claims.{capacity-largest, cost-largest, formulas-by-mode, terms-limits}
+use Rattle.account.proofs.Claims.{forwarded-step-takes-cost, refused-methods-rest, refused-step-keeps, refused-step-tells, short-step-tops-up, step-answers, step-is-top-up-and-debit, told-apart, valid-within}
 use Rattle.rule.proofs.Bench.{bench-table}
 use Rattle.rule.proofs.Bucket.{rule-read}
 use Rattle.rule.proofs.Rule.{allowance-by-mode, rule-of-steps, steps-in-words}
@@ -111,6 +112,7 @@ figures =
       lengths = length-limits;
       payload = payload-length;
       terms = terms-limits;
+      valid = valid-within;
       formulas = formulas-by-mode;
       capacity = capacity-largest;
       cost = cost-largest;

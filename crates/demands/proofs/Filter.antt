@@ -8,7 +8,7 @@ use native.Mathlib.Omega.{arith}
 use lib.ListN.{length}
 use lib.Dec.{leb, eqb}
 use borrow.Author.Tests.{le-leb, eq-eqb, ne-eqb, eqb-true, eqb-false}
-use Rattle.octets.proofs.Tests.{split}
+use Rattle.lists.proofs.Tests.{split}
 use Rattle.frame.specs.Frame.{linkNumber}
 use Rattle.frame.proofs.Frame.{within}
 use Rattle.rows.specs.Rows.{foundIn}

@@ -17,7 +17,7 @@ use Rattle.lists.proofs.History.{Simulates, simulated-answers, simulated-final,
 use Rattle.lists.proofs.Lists.{only-take, only-drop}
 use Rattle.lists.proofs.Tests.{split}
 use Rattle.frame.specs.Frame.{lengthCode}
-use Rattle.account.specs.Terms.{Terms}
+use Rattle.terms.specs.declared.Terms.{Terms}
 use Rattle.account.specs.Account.{accountOf, valid}
 use Rattle.account.specs.Step.{policed}
 use Rattle.rule.specs.Bucket.{Reached}

@@ -8,7 +8,8 @@ use lib.Dec.{ltb, eqb}
 use borrow.Author.Tests.{lt-ltb, eq-eqb, ne-eqb}
 use Rattle.lists.proofs.History.{answers-each}
 use Rattle.lists.proofs.Tests.{split}
-use Rattle.account.specs.Terms.{Terms, cost}
+use Rattle.terms.specs.Terms.{cost}
+use Rattle.terms.specs.declared.Terms.{Terms}
 use Rattle.rule.specs.Bucket.{Reached, lastTime, ruleHolds}
 use Rattle.rule.specs.Rule.{allowance, ruleArrived}
 use Rattle.rule.proofs.Rule.{in-words}

@@ -6,7 +6,7 @@ use mathlib.Core.Bool.{true}
 use mathlib.Core.List.{List, [], _∷_, map}
 use mathlib.Core.Path.{_≡_}
 use lib.ListN.{getD, set, replicate}
-use Rattle.account.specs.Terms.{byteMode, frameMode}
+use Rattle.terms.specs.Terms.{byteMode, frameMode}
 use Rattle.rule.specs.Bench.{Case, termsP, byteCases, frameCases}
 use Rattle.image.specs.Bench.{imageP, answerP}
 use Rattle.loader.specs.Loading.{Runs, longEnough, loading}

@@ -3,7 +3,8 @@
 -- the round trips. Proved in proofs/Demands.antt.
 use Rattle.octets.specs.Claims.{ReadsBack, WritesBack}
 use Rattle.frame.specs.Claims.{LengthLimits, PayloadLength}
-use Rattle.account.specs.Claims.{FormulasByMode, CapacityLargest, CostLargest, TermsLimits, ForwardedStepTakesCost, StepIsTopUpAndDebit, RefusedMethodsRest}
+use Rattle.terms.specs.Claims.{FormulasByMode, CapacityLargest, CostLargest, TermsLimits}
+use Rattle.account.specs.Claims.{ValidLimits, ForwardedStepTakesCost, StepIsTopUpAndDebit, RefusedMethodsRest}
 use Rattle.rule.specs.Bench.{BenchTable}
 use Rattle.tables.specs.Claims.{FindsFirst, FindsNone, SizesWithinSmax, LinkRefused, LinkAccepted}
 use Rattle.layout.specs.Claims.{ImageFigures, ConstantLimits}
@@ -63,6 +64,7 @@ pub record Figures : Type 0 where
   pub lengths : LengthLimits
   pub payload : PayloadLength
   pub terms : TermsLimits
+  pub valid : ValidLimits
   pub formulas : FormulasByMode
   pub capacity : CapacityLargest
   pub cost : CostLargest

@@ -7,7 +7,7 @@ use mathlib.Core.Logic.{_↔_}
 use mathlib.Core.Path.{_≡_}
 use lib.ListN.{length, getD, set, take, replicate}
 use Rattle.lists.specs.Lists.{only, answersTo}
-use Rattle.account.specs.Terms.{cost}
+use Rattle.terms.specs.Terms.{cost}
 use Rattle.rule.specs.Bucket.{lastTime, FromEach, RuleRead}
 use Rattle.rule.specs.Rule.{allowance, AllowanceByMode, RuleOfSteps, StepsInWords}
 use Rattle.tables.specs.Rows.{Config}

@@ -9,7 +9,7 @@ use Rattle.lists.specs.Choice.{if_then_else_}
 use Rattle.lists.specs.History.{Machine, answers, leftBy, byCalls}
 use Rattle.lists.specs.Lists.{only}
 use Rattle.frame.specs.Frame.{linkNumber}
-use Rattle.account.specs.Terms.{Terms}
+use Rattle.terms.specs.declared.Terms.{Terms}
 use Rattle.rule.specs.Bucket.{Reached}
 use Rattle.rule.specs.Rule.{Arrival, ruleArrived, ruleOfAccount}
 use Rattle.rows.specs.Rows.{foundIn}

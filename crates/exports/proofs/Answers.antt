@@ -5,7 +5,7 @@ use mathlib.Core.List.{List}
 use mathlib.Core.Path.{_≡_, ap, _∙_}
 use lib.Dec.{leb}
 use borrow.Author.Tests.{eq-eqb, ne-eqb}
-use Rattle.octets.proofs.Tests.{split}
+use Rattle.lists.proofs.Tests.{split}
 use Rattle.account.specs.Account.{holding, valid, toppedUp}
 use Rattle.account.specs.Step.{Stepped, policed}
 use Rattle.account.specs.declared.Account.{Account}

@@ -4,8 +4,10 @@ use Prim.Native.Nat.{ℕ}
 use mathlib.Core.List.{List}
 use mathlib.Core.Option.{Option, none, some}
 use lib.Dec.{eqb}
-use Rattle.octets.specs.Choice.{if_then_else_}
+use Rattle.lists.specs.Choice.{if_then_else_}
 use Rattle.frame.specs.declared.Header.{Header}
+use Rattle.terms.specs.Terms.{termsWith}
+use Rattle.account.specs.Account.{accountOf}
 use Rattle.account.specs.Step.{Told as StepTold, Stepped}
 use Rattle.account.specs.declared.Account.{Account}
 use Rattle.image.specs.declared.Loaded.{Loaded}
@@ -28,7 +30,7 @@ headerWith code link sequence = record { code = code; link = link; sequence = se
 -- ---- an account by its values ("Accounts and links"): Smax, k, jitter, mode, credit and last time
 abbrev pub accountWith : ℕ → ℕ → ℕ → ℕ → ℕ → ℕ → Account
 accountWith smax k jitter mode credit last =
-    record { smax = smax; k = k; jitter = jitter; mode = mode; credit = credit; last = last }
+    accountOf (termsWith smax k jitter mode) credit last
 
 -- ---- the policing step ("Credit, in whole units"): its code, the credit that it tells, and the account after it
 abbrev pub stepNumbers : ℕ → ℕ → StepNumbers

@@ -5,6 +5,7 @@ ghost use Rattle.account.specs.Step.{told, policed};
 ghost use Rattle.exports.specs.Numbers.{accountWith, stepNumbers, stepSays, stepDone, stepDoneOf};
 use account::Account;
 use account::Outcome;
+use terms::Terms;
 
 // A policing step's answer in numbers.
 struct StepNumbers {
@@ -16,10 +17,12 @@ fn account_of(smax: u16, k: u8, jitter: u16, mode: u8, credit: u32, last: u64) -
     ensures { λ r. ⌜ r ≡ accountWith smax k jitter mode credit last ⌝ }
 {
     Account {
-        smax,
-        k,
-        jitter,
-        mode,
+        terms: Terms {
+            smax,
+            k,
+            jitter,
+            mode,
+        },
         credit,
         last,
     }

@@ -13,7 +13,7 @@ use Rattle.octets.specs.Numbers.{numberAt, octetsOf}
 use Rattle.octets.specs.Runs.{octetsAt}
 use Rattle.octets.proofs.Numbers.{number-shift, number-octets, number-past, length-octets}
 use Rattle.octets.proofs.Parts.{length-part, getD-part, part-is, part-join, octets-number}
-use Rattle.octets.proofs.Tests.{split, both}
+use Rattle.lists.proofs.Tests.{split, both}
 use Rattle.fields.specs.Fields.{fieldOf, tagAndLength, lengthAt, fieldAt, standsAt}
 use Rattle.fields.specs.declared.Field.{Field}
 

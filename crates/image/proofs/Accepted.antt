@@ -8,9 +8,9 @@ use lib.Dec.{leb, eqb}
 use lib.ListN.{length, getD}
 use borrow.Author.Tests.{leb-true, leb-false, eq-eqb, ne-eqb, eqb-true, eqb-false}
 use Rattle.octets.specs.Numbers.{numberAt}
-use Rattle.octets.proofs.Tests.{split, both}
+use Rattle.lists.proofs.Tests.{split, both}
 use Rattle.tables.specs.Rules.{accountGood, linkGood}
-use Rattle.octets.proofs.Leading.{leading-before, leading-fails}
+use Rattle.lists.proofs.Leading.{leading-before, leading-fails}
 use Rattle.fields.specs.Fields.{tagAndLength, fieldAt}
 use Rattle.fields.specs.declared.Field.{Field}
 use Rattle.layout.specs.Layout.{headTag, accountTag, linkTag, endTag, headOctets, fieldPlace, imageLength, maxAccounts, maxLinks}

@@ -2,8 +2,8 @@
 use mathlib.Core.Path.{refl}
 use Rattle.octets.specs.Numbers.{numberAt, octetsOf}
 use Rattle.octets.specs.Runs.{octetsAt, joined}
-use Rattle.account.specs.Terms.{inLimits}
-use Rattle.octets.specs.Leading.{leading}
+use Rattle.terms.specs.Terms.{inLimits}
+use Rattle.lists.specs.Leading.{leading}
 use Rattle.tables.specs.Rows.{termsAt, linkAt}
 use Rattle.tables.specs.Rules.{portsSound, sizesSound, linkSound, accountGood, numberRises, linkGood}
 use Rattle.fields.specs.Fields.{fieldOf}

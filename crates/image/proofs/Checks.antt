@@ -7,7 +7,7 @@ use lib.Dec.{leb, eqb}
 use lib.ListN.{getD}
 use borrow.Author.Tests.{eq-eqb, ne-eqb, not-true, not-false}
 use Rattle.octets.specs.Numbers.{numberAt}
-use Rattle.octets.proofs.Tests.{split}
+use Rattle.lists.proofs.Tests.{split}
 use Rattle.tables.specs.Rows.{accountOctets, linkOctets}
 use Rattle.tables.specs.Rules.{accountGood, linkGood}
 use Rattle.fields.specs.Fields.{fieldAt}

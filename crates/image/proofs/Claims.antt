@@ -7,11 +7,11 @@ use native.Mathlib.Omega.{arith}
 use lib.Dec.{leb, eqb}
 use lib.ListN.{length, getD}
 use borrow.Author.Tests.{leb-false, eqb-true, eqb-false}
-use Rattle.octets.specs.Choice.{if_then_else_}
+use Rattle.lists.specs.Choice.{if_then_else_}
 use Rattle.octets.specs.Numbers.{numberAt}
-use Rattle.octets.proofs.Tests.{split}
+use Rattle.lists.proofs.Tests.{split}
 use Rattle.tables.specs.Rows.{accountOctets, linkOctets}
-use Rattle.octets.proofs.Leading.{leading-fails}
+use Rattle.lists.proofs.Leading.{leading-fails}
 use Rattle.fields.specs.Fields.{tagAndLength, fieldAt}
 use Rattle.fields.specs.declared.Field.{Field}
 use Rattle.layout.specs.Layout.{headTag, accountTag, linkTag, endTag, headSize, accountSize, linkSize, headOctets, fieldPlace, imageLength, maxAccounts, maxLinks, longestImage}

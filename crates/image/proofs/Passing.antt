@@ -8,10 +8,10 @@ use lib.Dec.{eqb}
 use lib.ListN.{length, getD}
 use borrow.Author.Tests.{le-leb, lt-leb, eq-eqb, ne-eqb, eqb-true, not-true, not-false}
 use Rattle.octets.specs.Numbers.{numberAt}
-use Rattle.octets.proofs.Tests.{split, both}
+use Rattle.lists.proofs.Tests.{split, both}
 use Rattle.tables.specs.Rows.{accountOctets, linkOctets}
 use Rattle.tables.specs.Rules.{accountGood, linkGood}
-use Rattle.octets.proofs.Leading.{leading-zero, leading-stop, leading-is}
+use Rattle.lists.proofs.Leading.{leading-zero, leading-stop, leading-is}
 use Rattle.fields.specs.Fields.{tagAndLength, lengthAt, fieldAt, standsAt}
 use Rattle.fields.proofs.Fields.{stands-by, stands-tag, stands-length, stands-whole}
 use Rattle.layout.specs.Layout.{headTag, accountTag, linkTag, endTag, edition, headOctets, headSize, accountSize, linkSize, fieldPlace, imageLength, maxAccounts, maxLinks, constantGood}

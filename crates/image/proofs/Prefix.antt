@@ -10,10 +10,10 @@ use lib.ListN.{length, getD, take}
 use lib.Seq.{length-take-le, take-all, getD-take}
 use borrow.Author.Tests.{lt-ltb, le-ltb, ltb-true, ltb-false, leb-true, leb-false, le-leb, eqb-true, eqb-false}
 use Rattle.octets.specs.Numbers.{numberAt}
-use Rattle.octets.proofs.Tests.{split}
+use Rattle.lists.proofs.Tests.{split}
 use Rattle.octets.proofs.Numbers.{number-shift}
 use Rattle.tables.specs.Rows.{accountOctets, linkOctets, accountIn, linkIn}
-use Rattle.octets.proofs.Leading.{leading-same}
+use Rattle.lists.proofs.Leading.{leading-same}
 use Rattle.tables.proofs.Rows.{terms-same, link-same}
 use Rattle.tables.proofs.Rules.{account-good-same, link-good-same}
 use Rattle.fields.specs.Fields.{tagAndLength, fieldAt}

@@ -7,8 +7,8 @@ use lib.Dec.{ltb, eqb}
 use lib.ListN.{length}
 use borrow.Author.Tests.{lt-ltb, le-ltb, ltb-true, ltb-false, eq-eqb, ne-eqb, eqb-true, eqb-false}
 use Rattle.octets.specs.Numbers.{numberAt}
-use Rattle.octets.proofs.Tests.{split}
-use Rattle.octets.proofs.Leading.{leading-high}
+use Rattle.lists.proofs.Tests.{split}
+use Rattle.lists.proofs.Leading.{leading-high}
 use Rattle.layout.specs.Layout.{accountTag, linkTag, fieldPlace, dataPlace, imageLength, maxAccounts, maxLinks}
 use Rattle.image.specs.Read.{headCode, nextCode, goodField, accountCount, linkCount, refused, readEnd, readImage}
 use Rattle.image.specs.declared.Loaded.{Loaded}

@@ -3,7 +3,7 @@
 use Prim.Native.Nat.{ℕ}
 use mathlib.Core.List.{List, [], _∷_, _++_}
 use mathlib.Core.Path.{_≡_}
-use Rattle.account.specs.Terms.{Terms}
+use Rattle.terms.specs.declared.Terms.{Terms}
 use Rattle.tables.specs.Rows.{Config, accountIn, linkIn}
 use Rattle.tables.specs.declared.Link.{Link}
 use Rattle.layout.specs.Layout.{imageOf}

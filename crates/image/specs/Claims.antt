@@ -4,7 +4,7 @@ use Prim.Native.Nat.{ℕ, zero, suc, _+_, _≤_, _<_}
 use mathlib.Core.Path.{_≡_}
 use mathlib.Core.List.{List, [], _∷_, List·Memᴰ}
 use lib.ListN.{length, take}
-use Rattle.octets.specs.Choice.{if_then_else_}
+use Rattle.lists.specs.Choice.{if_then_else_}
 use Rattle.layout.specs.Layout.{accountTag, linkTag, endTag, imageLength, maxAccounts, maxLinks, longestImage, imagePrefix}
 use Rattle.image.specs.Read.{headCode, tagAt, goodField, refused, readEnd, readImage}
 use Rattle.image.specs.declared.Loaded.{Loaded}

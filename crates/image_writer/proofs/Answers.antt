@@ -8,7 +8,7 @@ use lib.Dec.{ltb, leb, eqb}
 use lib.ListN.{length}
 use borrow.Author.Tests.{lt-ltb, le-ltb, ltb-true, ltb-false, le-leb, lt-leb, leb-true, eq-eqb, ne-eqb, eqb-true, eqb-false, not-true, not-false}
 use Rattle.octets.specs.Runs.{put}
-use Rattle.octets.proofs.Tests.{split, both}
+use Rattle.lists.proofs.Tests.{split, both}
 use Rattle.tables.specs.Rows.{Config, accountOctets, linkOctets}
 use Rattle.layout.specs.Layout.{maxAccounts, maxLinks, fieldPlace, imageLength, constantGood, imageOf}
 use Rattle.image_writer.specs.Writing.{countGood, countsGood, badAccount, badLink, writtenOf, valueAnswer, writeAnswer, writingOf, writing}

@@ -7,12 +7,12 @@ use native.Mathlib.Nat.{zero-add}
 use native.Mathlib.Omega.{arith}
 use lib.Dec.{eqb}
 use lib.ListN.{length, drop}
-use Rattle.octets.specs.Choice.{if_then_else_}
+use Rattle.lists.specs.Choice.{if_then_else_}
 use Rattle.octets.specs.Runs.{put}
 use Rattle.octets.proofs.Runs.{put-fits}
 use Rattle.tables.specs.Rows.{Config, accountTable, linkTable}
 use Rattle.tables.specs.Rules.{accountGood, linkGood}
-use Rattle.octets.proofs.Leading.{leading-is}
+use Rattle.lists.proofs.Leading.{leading-is}
 use Rattle.layout.specs.Layout.{fieldPlace, imageLength, imageOf}
 use Rattle.image_writer.specs.Writing.{countsGood, badAccount, badLink, writtenOf, valueAnswer, writeAnswer, Writing, writingOf, writing}
 use Rattle.image_writer.specs.Claims.{WriteRefuses, WriteAccepts, FirstBadConstant, FirstBadAccount, FirstBadLink, WriteCodes, RefusedWriteKeeps, WriteOffsets, WritesImage, ImageLength}

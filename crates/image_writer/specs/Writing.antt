@@ -4,9 +4,9 @@ use mathlib.Core.Bool.{Bool, not, _&&_}
 use mathlib.Core.List.{List}
 use lib.ListN.{length}
 use lib.Dec.{ltb, leb, eqb}
-use Rattle.octets.specs.Choice.{if_then_else_}
+use Rattle.lists.specs.Choice.{if_then_else_}
 use Rattle.octets.specs.Runs.{put}
-use Rattle.octets.specs.Leading.{leading}
+use Rattle.lists.specs.Leading.{leading}
 use Rattle.tables.specs.Rows.{Config, accountOctets, linkOctets, accountTable, linkTable}
 use Rattle.tables.specs.Rules.{accountGood, linkGood}
 use Rattle.layout.specs.Layout.{maxAccounts, maxLinks, fieldPlace, imageLength, constantGood, imageOf}

@@ -3,7 +3,7 @@ ghost use mathlib.Core.Path.{_≡_};
 ghost use Rattle.rows.specs.Rows.{spacing};
 ghost use Rattle.tables.specs.Rows.{accountOctets, linkOctets, accountTable, linkTable, configOf};
 ghost use Rattle.tables.specs.Rules.{accountGood, linkGood};
-ghost use Rattle.octets.specs.Leading.{leading};
+ghost use Rattle.lists.specs.Leading.{leading};
 ghost use Rattle.image_writer.specs.Writing.{valueAnswer};
 use super::Written;
 use layout::codes;

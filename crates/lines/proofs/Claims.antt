@@ -2,7 +2,7 @@
 use mathlib.Core.Path.{refl}
 use native.Mathlib.Omega.{arith}
 use lib.ListN.{length-append}
-use Rattle.octets.specs.Leading.{leading}
+use Rattle.lists.specs.Leading.{leading}
 use Rattle.lines.specs.Digits.{digitsOf, widthOf}
 use Rattle.lines.specs.Text.{space, lineEnd, wordOf, frameLine, refusedLine}
 use Rattle.lines.specs.Claims.{DigitsReadBack, NoZeroInFront, LinesFit, SheetLines}

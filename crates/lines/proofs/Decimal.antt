@@ -11,9 +11,9 @@ use lib.Seq.{take-suc, set-at, length-take-le, getD-at}
 use borrow.Author.Tests.{le-leb, lt-leb, leb-true, leb-false}
 use Rattle.octets.specs.Runs.{put}
 use Rattle.octets.proofs.Runs.{put-fits, put-none}
-use Rattle.octets.proofs.Tests.{split}
-use Rattle.octets.specs.Leading.{leading}
-use Rattle.octets.proofs.Leading.{leading-zero, leading-on, leading-stop, leading-high, leading-before, leading-fails}
+use Rattle.lists.proofs.Tests.{split}
+use Rattle.lists.specs.Leading.{leading}
+use Rattle.lists.proofs.Leading.{leading-zero, leading-on, leading-stop, leading-high, leading-before, leading-fails}
 use Rattle.lines.specs.Digits.{zeroChar, digitsOf, tensLeft, moreDigits, widthOf, digitsRead}
 
 pub length-digits : (w x : ℕ) → length (digitsOf w x) ≡ w

@@ -3,7 +3,7 @@ use Prim.Native.Nat.{ℕ, zero, suc, _+_, _*_, _-_, _/_, _%_, _^_}
 use mathlib.Core.List.{List, [], _∷_, _++_}
 use lib.ListN.{getD}
 use lib.Dec.{leb}
-use Rattle.octets.specs.Leading.{leading}
+use Rattle.lists.specs.Leading.{leading}
 
 -- the character 0; those of the other digits follow it
 abbrev pub zeroChar : ℕ

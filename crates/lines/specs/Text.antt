@@ -4,7 +4,7 @@ use mathlib.Core.List.{List, [], _∷_, _++_}
 use mathlib.Core.Option.{Option, none, some}
 use lib.ListN.{length}
 use lib.Dec.{leb}
-use Rattle.octets.specs.Choice.{if_then_else_}
+use Rattle.lists.specs.Choice.{if_then_else_}
 use Rattle.octets.specs.Runs.{put}
 use Rattle.switch.specs.Verdict.{Told}
 use Rattle.lines.specs.Digits.{decimalOf}

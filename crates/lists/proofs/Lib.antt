@@ -1,3 +1,4 @@
 pub mod History
+pub mod Leading
 pub mod Lists
 pub mod Tests

@@ -1,3 +1,4 @@
 pub mod Choice
 pub mod History
+pub mod Leading
 pub mod Lists

@@ -2,19 +2,19 @@
 use Prim.Native.Nat.{ℕ, _+_, _*_, _<_, min}
 use mathlib.Core.Bool.{true}
 use mathlib.Core.List.{List, [], _∷_}
-use mathlib.Core.Path.{_≡_, refl, ap, _∙_}
+use mathlib.Core.Path.{_≡_, refl, sym, ap, _∙_}
 use native.Mathlib.Nat.{add-assoc}
 use native.Mathlib.Omega.{arith}
 use lib.Dec.{eqb}
 use lib.ListN.{length, replicate}
 use borrow.Author.Tests.{eqb-true, eqb-false}
-use Rattle.octets.proofs.Tests.{split}
+use Rattle.lists.proofs.Tests.{split}
 use Rattle.octets.specs.Runs.{octetsAt, joined, put}
 use Rattle.octets.proofs.Parts.{part-same, getD-from, joined-same}
 use Rattle.octets.proofs.Runs.{put-none}
-use Rattle.account.specs.Account.{accountOf, capacityOf}
-use Rattle.account.specs.declared.Account.{Account}
-use Rattle.account.proofs.Methods.{valid-by}
+use Rattle.terms.specs.Terms.{checkedCapacity}
+use Rattle.terms.specs.declared.Terms.{Terms}
+use Rattle.terms.proofs.Methods.{capacity-kept}
 use Rattle.rows.specs.Rows.{rowOctets}
 use Rattle.tables.specs.Rows.{accountOctets, linkOctets, termsAt, accountIn}
 use Rattle.tables.specs.Rules.{accountGood}
@@ -47,16 +47,15 @@ module _ (s d e : List ℕ) (at : ℕ) where
 
 -- ---- the capacity of an account: as the method gives it, and as the formula does
 abbrev pub methodCapacity : List ℕ → ℕ → List ℕ
-methodCapacity s i = capacityOf (accountOf (accountIn (accountFields s) i) 0 0) ∷ []
+methodCapacity s i = checkedCapacity (accountIn (accountFields s) i) ∷ []
 
-pub capacity-read : (s : List ℕ) (i at : ℕ) (a : Account) (x : ℕ) → at ≡ dataPlace i 0 → a ≡ accountOf (termsAt s at) 0 0 → x ≡ capacityOf a
-    → x ≡ capacityOf (accountOf (accountIn (accountFields s) i) 0 0)
-capacity-read s i at a x e f g = g ∙ ap capacityOf (f ∙ ap (λ (p : ℕ). accountOf (termsAt s p) 0 0) (e ∙ account-place i))
+pub capacity-read : (s : List ℕ) (i at : ℕ) (p : Terms) (x : ℕ) → at ≡ dataPlace i 0 → p ≡ termsAt s at → x ≡ checkedCapacity p
+    → x ≡ checkedCapacity (accountIn (accountFields s) i)
+capacity-read s i at p x e f g = g ∙ ap checkedCapacity (f ∙ ap (termsAt s) (e ∙ account-place i))
 
-full-capacity : (s : List ℕ) (i : ℕ) → accountGood (accountFields s) i ≡ true
-    → capacityOf (accountOf (accountIn (accountFields s) i) 0 0) ≡ fullCredit (accountFields s) i
-unfolding accountGood capacityOf
-full-capacity s i e = simp (valid-by (accountOf (accountIn (accountFields s) i) 0 0) e (omega arith))
+full-capacity : (s : List ℕ) (i : ℕ) → accountGood (accountFields s) i ≡ true → checkedCapacity (accountIn (accountFields s) i) ≡ fullCredit (accountFields s) i
+unfolding accountGood
+full-capacity s i e = sym (capacity-kept (accountIn (accountFields s) i) e)
 
 pub capacities-good : (s : List ℕ) (n : ℕ) → ((i : ℕ) → i < n → accountGood (accountFields s) i ≡ true) → joined (methodCapacity s) n ≡ capacities (accountFields s) n
 unfolding capacities

@@ -10,12 +10,12 @@ use lib.Dec.{leb, eqb}
 use lib.ListN.{length, getD, take, drop, replicate, length-take, length-replicate, getD-replicate}
 use lib.Seq.{take-append-seam, getD-take}
 use borrow.Author.Tests.{ltb-true, le-leb, leb-true, leb-false, eq-eqb, ne-eqb}
-use Rattle.octets.specs.Choice.{if_then_else_}
+use Rattle.lists.specs.Choice.{if_then_else_}
 use Rattle.octets.specs.Runs.{octetsAt, joined, put}
-use Rattle.octets.proofs.Tests.{split, both}
+use Rattle.lists.proofs.Tests.{split, both}
 use Rattle.octets.proofs.Parts.{length-part, getD-part, part-same, part-octet, length-joined, joined-at, row-below}
 use Rattle.octets.proofs.Runs.{put-fits}
-use Rattle.account.specs.Terms.{capacity}
+use Rattle.terms.specs.Terms.{capacity}
 use Rattle.rows.specs.Rows.{Rows, rowOctets}
 use Rattle.tables.specs.Rows.{accountOctets, linkOctets, accountTable, linkTable, accountIn, linkIn}
 use Rattle.tables.specs.Rules.{linkSound, numberRises, linkGood}

@@ -8,7 +8,7 @@ use lib.Dec.{eqb}
 use lib.ListN.{length, take}
 use lib.Seq.{take-all}
 use borrow.Author.Tests.{eqb-true, eqb-false}
-use Rattle.octets.proofs.Tests.{split}
+use Rattle.lists.proofs.Tests.{split}
 use Rattle.layout.specs.Layout.{fieldPlace, imagePrefix}
 use Rattle.image.specs.Read.{readImage}
 use Rattle.image.specs.declared.Loaded.{Loaded}

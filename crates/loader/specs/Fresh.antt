@@ -4,7 +4,7 @@ use mathlib.Core.Bool.{true}
 use mathlib.Core.List.{List}
 use mathlib.Core.Path.{_≡_}
 use lib.ListN.{length, getD, take, replicate}
-use Rattle.account.specs.Terms.{capacity}
+use Rattle.terms.specs.Terms.{capacity}
 use Rattle.tables.specs.Rows.{accountTable, linkTable, accountIn, linkIn}
 use Rattle.tables.specs.Rules.{accountGood, linkRowSound}
 use Rattle.layout.specs.Layout.{maxAccounts, maxLinks}

@@ -5,9 +5,9 @@ use mathlib.Core.Bool.{Bool, not, _&&_}
 use mathlib.Core.List.{List, [], _∷_}
 use lib.ListN.{length, replicate}
 use lib.Dec.{leb, eqb}
-use Rattle.octets.specs.Choice.{if_then_else_}
+use Rattle.lists.specs.Choice.{if_then_else_}
 use Rattle.octets.specs.Runs.{joined, put}
-use Rattle.account.specs.Terms.{capacity}
+use Rattle.terms.specs.Terms.{capacity}
 use Rattle.rows.specs.Rows.{Rows, rowOctets}
 use Rattle.tables.specs.Rows.{accountOctets, linkOctets, accountIn}
 use Rattle.image.specs.Read.{accountFields, linkFields, refused, readImage}

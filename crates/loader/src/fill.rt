@@ -3,7 +3,7 @@ ghost use mathlib.Core.List.{[], _∷_};
 ghost use mathlib.Core.Path.{_≡_};
 ghost use lib.ListN.{replicate};
 ghost use Rattle.octets.specs.Runs.{joined, put};
-ghost use Rattle.account.specs.Account.{accountOf, capacityOf};
+ghost use Rattle.terms.specs.Terms.{checkedCapacity};
 ghost use Rattle.rows.specs.Rows.{rowOctets};
 ghost use Rattle.tables.specs.Rows.{accountIn};
 ghost use Rattle.image.specs.Read.{fieldRows, accountFields};
@@ -28,15 +28,14 @@ fn copy_rows(image: &[u8], first: usize, size: u8, n: u16, rows: &mut [u8])
 
 // The capacity of an account of the image.
 fn capacity_of(image: &[u8], i: u16) -> u32
-    ensures { λ r. ⌜ r ≡ capacityOf (accountOf (accountIn (accountFields (now (image .entry))) i) 0 0) ⌝ }
+    ensures { λ r. ⌜ r ≡ checkedCapacity (accountIn (accountFields (now (image .entry))) i) ⌝ }
 {
-    let a = tables::account_at(image, layout::data_place(i, 0), 0, 0);
-    a.capacity()
+    tables::terms_at(image, layout::data_place(i, 0)).capacity()
 }
 
 // The capacities of the first n accounts.
 fn fill_credits(image: &[u8], n: u16, credits: &mut [u32])
-    ensures { λ r. ⌜ now (credits .exit) ≡ put (now (credits .entry)) 0 (joined (λ i. capacityOf (accountOf (accountIn (accountFields (now (image .entry))) i) 0 0) ∷ []) n) ⌝ }
+    ensures { λ r. ⌜ now (credits .exit) ≡ put (now (credits .entry)) 0 (joined (λ i. checkedCapacity (accountIn (accountFields (now (image .entry))) i) ∷ []) n) ⌝ }
 {
     if !octets::has_room(credits.len(), 0, n as usize) {
         return;
@@ -73,7 +72,7 @@ pub(crate) fn fill_runs(
     links: &mut [u8],
 )
     ensures accounts { λ r. ⌜ now (accounts .exit) ≡ put (now (accounts .entry)) 0 (accountRows (now (image .entry)) n) ⌝ }
-    ensures credits { λ r. ⌜ now (credits .exit) ≡ put (now (credits .entry)) 0 (joined (λ i. capacityOf (accountOf (accountIn (accountFields (now (image .entry))) i) 0 0) ∷ []) n) ⌝ }
+    ensures credits { λ r. ⌜ now (credits .exit) ≡ put (now (credits .entry)) 0 (joined (λ i. checkedCapacity (accountIn (accountFields (now (image .entry))) i) ∷ []) n) ⌝ }
     ensures lasts { λ r. ⌜ now (lasts .exit) ≡ put (now (lasts .entry)) 0 (replicate n 0) ⌝ }
     ensures links { λ r. ⌜ now (links .exit) ≡ put (now (links .entry)) 0 (linkRows (now (image .entry)) n m) ⌝ }
 {

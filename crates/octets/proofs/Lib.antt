@@ -1,6 +1,5 @@
 pub mod Claims
 pub mod Filled
-pub mod Leading
 pub mod Numbers
 pub mod Parts
 pub mod Runs

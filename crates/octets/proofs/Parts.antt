@@ -12,7 +12,7 @@ use borrow.Author.Tests.{leb-true, leb-false}
 use Rattle.octets.specs.Numbers.{numberAt, octetsOf}
 use Rattle.octets.specs.Runs.{octetsAt, joined}
 use Rattle.octets.proofs.Numbers.{number-shift}
-use Rattle.octets.proofs.Tests.{split}
+use Rattle.lists.proofs.Tests.{split}
 
 -- from the end on all octets are 0, wherever one starts
 pub getD-clamped : (s : List ℕ) (at k : ℕ) → getD s (min at (length s) + k) 0 ≡ getD s (at + k) 0

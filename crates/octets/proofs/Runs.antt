@@ -14,7 +14,8 @@ use Rattle.octets.specs.Numbers.{octetsOf}
 use Rattle.octets.specs.Runs.{octetsAt, put}
 use Rattle.octets.proofs.Numbers.{length-octets, octets-join, octets-low}
 use Rattle.octets.proofs.Parts.{length-part, part-take}
-use Rattle.octets.proofs.Tests.{split, no-room}
+use Rattle.lists.proofs.Tests.{split}
+use Rattle.octets.proofs.Tests.{no-room}
 
 -- with room, and without
 pub put-fits : (d : List ℕ) (at : ℕ) (xs : List ℕ) → at + length xs ≤ length d → put d at xs ≡ take at d ++ xs ++ drop (at + length xs) d

@@ -6,7 +6,7 @@ use native.Mathlib.Nat.{zero-add}
 use native.Mathlib.Omega.{arith}
 use lib.Dec.{leb}
 use borrow.Author.Tests.{leb-true, leb-false, lt-leb, not-true, not-false}
-pub use Rattle.lists.proofs.Tests.{split, both, neither, leb-same}
+use Rattle.lists.proofs.Tests.{leb-same}
 
 -- ---- the test of room for `size` octets at a place in a run of `len`
 module _ (len at size : ℕ) where

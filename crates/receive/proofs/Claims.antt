@@ -10,8 +10,8 @@ use native.Mathlib.Omega.{arith}
 use lib.ListN.{length}
 use lib.Dec.{eqb}
 use borrow.Author.Tests.{eqb-true, eqb-false}
-use Rattle.octets.specs.Choice.{if_then_else_}
-use Rattle.octets.proofs.Tests.{split}
+use Rattle.lists.specs.Choice.{if_then_else_}
+use Rattle.lists.proofs.Tests.{split}
 use Rattle.octets.specs.Numbers.{numberAt}
 use Rattle.rows.specs.Rows.{tableOf, rowNumber, foundIn}
 use Rattle.rows.specs.declared.Found.the-variants.{At, Nowhere}

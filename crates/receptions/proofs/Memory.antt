@@ -8,7 +8,7 @@ use native.Mathlib.Omega.{arith}
 use lib.ListN.{length}
 use lib.Dec.{eqb}
 use borrow.Author.Tests.{eq-eqb, eqb-true}
-use Rattle.octets.proofs.Tests.{split, both}
+use Rattle.lists.proofs.Tests.{split, both}
 use Rattle.receive.specs.declared.Arrival.{Arrival}
 use Rattle.receive.specs.declared.Network.{Network}
 use Rattle.receive.specs.declared.Network.the-variants.{A, B}

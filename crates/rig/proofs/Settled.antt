@@ -11,7 +11,7 @@ use lib.Seq.{getD-append-add}
 use borrow.Author.Tests.{le-leb, lt-leb, leb-true, leb-false, ltb-true, ltb-false, eqb-true, eqb-false}
 use Rattle.octets.specs.Numbers.{numberAt}
 use Rattle.octets.proofs.Numbers.{number-shift, number-below}
-use Rattle.octets.proofs.Tests.{split}
+use Rattle.lists.proofs.Tests.{split}
 use Rattle.fields.specs.Fields.{tagAndLength, lengthAt}
 use Rattle.rig.specs.Records.{recordTag, timeOctets, stampOctets, portPlace, frameStart, unsettled, recordAt, nextIn}
 use Rattle.rig.specs.Claims.{moved, NextSettled, NextMoved, NeverMore, FrameInside}

@@ -4,7 +4,7 @@ use mathlib.Core.Bool.{Bool, not}
 use mathlib.Core.List.{List}
 use lib.ListN.{length, getD}
 use lib.Dec.{leb, ltb, eqb}
-use Rattle.octets.specs.Choice.{if_then_else_}
+use Rattle.lists.specs.Choice.{if_then_else_}
 use Rattle.octets.specs.Numbers.{numberAt}
 use Rattle.fields.specs.Fields.{tagAndLength, lengthAt, fieldAt}
 use Rattle.rig.specs.declared.log.Stamped.{Stamped}

@@ -7,11 +7,11 @@ use native.Mathlib.Nat.{zero-add}
 use native.Mathlib.Omega.{arith}
 use lib.Dec.{ltb, eqb}
 use borrow.Author.Tests.{lt-ltb, le-ltb, ltb-true, ltb-false, eq-eqb, ne-eqb, eqb-true, not-false}
-use Rattle.octets.specs.Choice.{if_then_else_}
-use Rattle.octets.specs.Leading.{leading}
+use Rattle.lists.specs.Choice.{if_then_else_}
+use Rattle.lists.specs.Leading.{leading}
 use Rattle.octets.specs.Numbers.{numberAt}
-use Rattle.octets.proofs.Leading.{leading-on, leading-stop, leading-before, leading-fails, leading-same}
-use Rattle.octets.proofs.Tests.{split}
+use Rattle.lists.proofs.Leading.{leading-on, leading-stop, leading-before, leading-fails, leading-same}
+use Rattle.lists.proofs.Tests.{split}
 use Rattle.rows.specs.Rows.{Rows, tableOf, numberOctets, rowNumber, otherNumber, rowOf, foundIn}
 use Rattle.rows.specs.declared.Found.{Found}
 use Rattle.rows.specs.declared.Found.the-variants.{At, Nowhere}

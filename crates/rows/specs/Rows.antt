@@ -4,8 +4,8 @@ use Prim.Native.Nat.{ℕ, _+_, _*_, _/_, min}
 use mathlib.Core.Bool.{Bool, not}
 use mathlib.Core.List.{List}
 use lib.Dec.{ltb, eqb}
-use Rattle.octets.specs.Choice.{if_then_else_}
-use Rattle.octets.specs.Leading.{leading}
+use Rattle.lists.specs.Choice.{if_then_else_}
+use Rattle.lists.specs.Leading.{leading}
 use Rattle.octets.specs.Numbers.{numberAt}
 use Rattle.octets.specs.Runs.{octetsAt}
 use Rattle.rows.specs.declared.Found.{Found}

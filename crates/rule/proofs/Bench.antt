@@ -2,7 +2,7 @@
 use mathlib.Core.Path.{refl}
 use Rattle.lists.specs.History.{answers, final}
 use Rattle.frame.specs.Frame.{lengthCode}
-use Rattle.account.specs.Terms.{inLimits, bag, added, charge, rate, capacity, byOctets, charged, cost}
+use Rattle.terms.specs.Terms.{inLimits, bag, added, charge, rate, capacity, byOctets, charged, cost}
 use Rattle.account.specs.Account.{valid, creditAt, capacityOf, costOf, toppedUp}
 use Rattle.account.specs.Step.{judged, policed}
 use Rattle.rule.specs.Bucket.{lastTime, holdsFrom, ruleHolds, costs}

@@ -10,7 +10,7 @@ use native.Mathlib.Omega.{arith}
 use lib.Dec.{leb}
 use lib.ListN.{length}
 use borrow.Author.Tests.{leb-true, leb-false, le-leb, lt-leb}
-use Rattle.octets.proofs.Tests.{split, both, leb-same}
+use Rattle.lists.proofs.Tests.{split, both, leb-same}
 use Rattle.rule.specs.Bucket.{Reached, lastTime, holdsFrom, ruleHolds, costs, FromFrame, RuleRead}
 
 -- a minimum's test is both tests

@@ -9,9 +9,10 @@ use lib.Dec.{ltb, leb, eqb, lit≤}
 use Rattle.lists.proofs.Tests.{split, leb-same}
 use Rattle.lists.proofs.History.{Simulates, same-answers}
 use Rattle.frame.specs.Frame.{lengthCode}
-use Rattle.account.specs.Terms.{Terms, termsWith, frameMode, lineFrameMode, inLimits, bag, added, charge, rate, byOctets, charged, cost}
+use Rattle.terms.specs.Terms.{termsWith, frameMode, lineFrameMode, inLimits, bag, added, charge, rate, byOctets, charged, cost}
+use Rattle.terms.specs.declared.Terms.{Terms}
 use Rattle.account.specs.Account.{loaded}
-use Rattle.account.proofs.Limits.{Limits, limits, in-limits-by, rate-low}
+use Rattle.terms.proofs.Limits.{Limits, limits, in-limits-by, rate-low}
 use Rattle.rule.specs.Bucket.{Reached, reached, lastTime, holdsFrom, ruleHolds}
 use Rattle.rule.specs.Rule.{Arrival, stepsTold, codes, allowance, Ruled, ruled, ruleArrived, ruleStep, ruleOfAccount, ruleCodes, FrameModesAlike}
 use Rattle.rule.proofs.Rule.{rule-of-steps}

@@ -12,7 +12,8 @@ use borrow.Author.Tests.{le-leb, lt-leb, lt-ltb, le-ltb, eq-eqb, ne-eqb, eqb-tru
 use Rattle.lists.proofs.Tests.{split}
 use Rattle.lists.proofs.History.{Simulates, simulated-answers, simulated-final}
 use Rattle.frame.specs.Frame.{lengthCode}
-use Rattle.account.specs.Terms.{Terms, inLimits, bag, rate, capacity, cost}
+use Rattle.terms.specs.Terms.{inLimits, bag, rate, capacity, cost}
+use Rattle.terms.specs.declared.Terms.{Terms}
 use Rattle.account.specs.Account.{accountOf, holding, loaded, valid, creditAt}
 use Rattle.account.specs.Step.{Stepped, stepped, policed}
 use Rattle.rule.specs.Bucket.{Reached, reached, lastTime, ruleHolds, FromEach}
@@ -21,7 +22,7 @@ use Rattle.account.specs.declared.Account.{Account}
 use Rattle.account.specs.declared.Outcome.the-variants.{Forwarded, Short}
 use Rattle.rule.proofs.Bucket.{gain, held, topped, held-high, rule-read}
 use Rattle.rule.proofs.Bucket.{Sound as SoundBucket, rule-is as bucket-rule}
-use Rattle.account.proofs.Claims.{formulas-by-mode}
+use Rattle.terms.proofs.Claims.{formulas-by-mode}
 use Rattle.account.proofs.Methods.{valid-by}
 use Rattle.account.proofs.Step.{by-step, police-length}
 

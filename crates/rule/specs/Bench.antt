@@ -4,7 +4,8 @@ use mathlib.Core.List.{List, [], _∷_, map}
 use lib.ListN.{take}
 use mathlib.Core.Option.{some}
 use mathlib.Core.Path.{_≡_}
-use Rattle.account.specs.Terms.{Terms, byteMode, frameMode}
+use Rattle.terms.specs.Terms.{byteMode, frameMode}
+use Rattle.terms.specs.declared.Terms.{Terms}
 use Rattle.account.specs.Account.{loaded, capacityOf, costOf, toppedUp}
 use Rattle.account.specs.Step.{Told}
 use Rattle.rule.specs.Bucket.{costs}

@@ -9,7 +9,8 @@ use lib.Dec.{ltb, eqb}
 use Rattle.lists.specs.Choice.{if_then_else_}
 use Rattle.lists.specs.History.{Machine, answers, final}
 use Rattle.frame.specs.Frame.{lengthCode}
-use Rattle.account.specs.Terms.{Terms, termsWith, inLimits, bag, rate, cost}
+use Rattle.terms.specs.Terms.{termsWith, inLimits, bag, rate, cost}
+use Rattle.terms.specs.declared.Terms.{Terms}
 use Rattle.account.specs.Account.{loaded}
 use Rattle.account.specs.Step.{Told, policed}
 use Rattle.rule.specs.Bucket.{Reached, reached, lastTime, ruleHolds, FromEach}

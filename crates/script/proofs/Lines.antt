@@ -8,7 +8,7 @@ use native.Mathlib.Omega.{arith}
 use lib.ListN.{length, getD, drop, length-drop}
 use lib.Dec.{leb, eqb}
 use borrow.Author.Tests.{eq-eqb, ne-eqb, le-leb, lt-leb}
-use Rattle.octets.proofs.Tests.{split}
+use Rattle.lists.proofs.Tests.{split}
 use Rattle.script.specs.declared.Line.{Line}
 use Rattle.script.specs.Lines.{lineLength, lineEnd, lineOf, noNumbers, joinedDigit, readOctet, numbersOf}
 

@@ -4,7 +4,7 @@ use mathlib.Core.Bool.{Bool, _&&_}
 use mathlib.Core.List.{List, [], _∷_}
 use lib.ListN.{length, getD, drop}
 use lib.Dec.{leb, eqb}
-use Rattle.octets.specs.Choice.{if_then_else_}
+use Rattle.lists.specs.Choice.{if_then_else_}
 use Rattle.script.specs.declared.Line.{Line}
 
 -- where the line ends that has the octet at a place: at the next line feed from there on, else at the end of the text

@@ -2,6 +2,7 @@
 use super::say;
 use account::Account;
 use account::Outcome;
+use terms::Terms;
 
 const LAST_TIME: u64 = 18446744073709551615;
 
@@ -36,10 +37,12 @@ pub(crate) fn step(a: Account, octets: usize, time: u64) -> Account {
 
 pub(crate) fn account_of(smax: u16, k: u8, jitter: u16, mode: u8, credit: u32) -> Account {
     Account {
-        smax,
-        k,
-        jitter,
-        mode,
+        terms: Terms {
+            smax,
+            k,
+            jitter,
+            mode,
+        },
         credit,
         last: 0,
     }
@@ -160,7 +163,7 @@ fn order() {
     say::text(b"# order of codes\n");
     let sound = image_p(0).top_up(500);
     let mut unsound = sound;
-    unsound.mode = 4;
+    unsound.terms.mode = 4;
     step(unsound, 63, 499);
     step(unsound, 1519, 499);
     step(unsound, 64, 499);

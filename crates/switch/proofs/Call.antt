@@ -9,6 +9,7 @@ use lib.ListN.{length, getD, set, take, drop}
 use lib.Seq.{set-getD}
 use borrow.Author.Tests.{eq-eqb, ne-eqb, not-true, not-false}
 use Rattle.frame.specs.Frame.{linkNumber}
+use Rattle.terms.specs.declared.Terms.{Terms}
 use Rattle.account.specs.Account.{accountOf, valid, capacityOf}
 use Rattle.account.specs.Step.{Stepped, policed}
 use Rattle.account.specs.declared.Account.{Account}
@@ -46,17 +47,16 @@ module _ (n a c t u i : ℕ) (e : u ≡ inUse n a c t) (h : i < u) where
       let d : accountOctets * (a / accountOctets) ≤ a = rw (mul-comm accountOctets (a / accountOctets)) (div-mul-le-self a accountOctets) in
       omega arith
 
--- an account read from the part that is its row
-pub held-by : (accounts : List ℕ) (s : State) (i c t : ℕ) (a : Account)
-    → c ≡ getD (s .credits) i 0 → t ≡ getD (s .lasts) i 0
-    → a ≡ accountOf (termsAt (take (accountOctets * i + accountOctets - accountOctets * i) (drop (accountOctets * i) accounts)) 0) c t
-    → a ≡ accountHeld accounts s i
+-- an account whose values are read from the part that is its row
+pub held-by : (accounts : List ℕ) (s : State) (i c t : ℕ) (p : Terms)
+    → p ≡ termsAt (take (accountOctets * i + accountOctets - accountOctets * i) (drop (accountOctets * i) accounts)) 0
+    → c ≡ getD (s .credits) i 0 → t ≡ getD (s .lasts) i 0 → accountOf p c t ≡ accountHeld accounts s i
 unfolding accountHeld
-held-by accounts s i c t a p q f =
+held-by accounts s i c t p f q r =
     let at : ℕ = accountOctets * i in
-    let row : termsAt (take (at + accountOctets - at) (drop at accounts)) 0 ≡ termsAt accounts (0 + at) =
-    terms-within accounts at (at + accountOctets - at) (omega arith) ∙ ap (termsAt accounts) (sym (zero-add at)) in
-    f ∙ (λ k. accountOf (row k) (p k) (q k))
+    let row : p ≡ termsAt accounts (0 + at) =
+    f ∙ terms-within accounts at (at + accountOctets - at) (omega arith) ∙ ap (termsAt accounts) (sym (zero-add at)) in
+    λ k. accountOf (row k) (q k) (r k)
 
 -- what an account holds, stored again, changes nothing
 pub held-again : (accounts : List ℕ) (s : State) (i : ℕ)
@@ -65,7 +65,7 @@ unfolding accountHeld
 held-again accounts s i = λ k. stateOf (set-getD (s .credits) i 0 k) (set-getD (s .lasts) i 0 k)
 
 -- ---- what is decided
-module _ (l : Link) (used : ℕ) (a : Account) (n port t : ℕ) (r : Bool) (e : r ≡ linkSound l used (a .smax)) where
+module _ (l : Link) (used : ℕ) (a : Account) (n port t : ℕ) (r : Bool) (e : r ≡ linkSound l used (a .terms .smax)) where
   pub decided-link : not r ≡ true → (d : Decided) → d ≡ kept 10 a → d ≡ decided l used a n port t
   unfolding decided
   decided-link h d q = q ∙ simp (← e, not-true r h)
@@ -86,12 +86,12 @@ module _ (l : Link) (used : ℕ) (a : Account) (n port t : ℕ) (r : Bool) (e : 
       decided-step m q w u v = simp (v, u, ← e, not-false r h, some-valid a c f z, eq-eqb (portCode l n port) 0 (sym p ∙ m))
 
 -- of an unsound link or an invalid account
-pub decided-unsound : (l : Link) (used : ℕ) (a : Account) (n port t : ℕ) → (linkSound l used (a .smax) && valid a) ≡ false → decided l used a n port t ≡ kept 10 a
+pub decided-unsound : (l : Link) (used : ℕ) (a : Account) (n port t : ℕ) → (linkSound l used (a .terms .smax) && valid a) ≡ false → decided l used a n port t ≡ kept 10 a
 unfolding decided
 decided-unsound l used a n port t e = simp e
 
 -- of a sound link and a valid account
-module _ (l : Link) (used : ℕ) (a : Account) (n port t : ℕ) (e : linkSound l used (a .smax) ≡ true) (v : valid a ≡ true) where
+module _ (l : Link) (used : ℕ) (a : Account) (n port t : ℕ) (e : linkSound l used (a .terms .smax) ≡ true) (v : valid a ≡ true) where
   pub decided-refused : (portCode l n port ≡ 0 → ⊥) → decided l used a n port t ≡ kept (portCode l n port) a
   unfolding decided
   decided-refused h = simp (e, v, ne-eqb _ _ h)
@@ -126,7 +126,7 @@ module _ (g : Config) (s : State) (f : Call) (r : Route) (q : r ≡ routed (f .o
     pub call-unused : used ≤ l .account → refusedWith 10 s ≡ called g s f
     unfolding decided
     call-unused k =
-        let b : linkSound l (accountsInUse g s) (accountHeld (g .accounts) s (l .account) .smax) ≡ false = sym (account-past l _ _ (rw e at k)) in
+        let b : linkSound l (accountsInUse g s) (accountHeld (g .accounts) s (l .account) .terms .smax) ≡ false = sym (account-past l _ _ (rw e at k)) in
         let d : kept 10 (accountHeld (g .accounts) s (l .account)) ≡ decided l (accountsInUse g s) (accountHeld (g .accounts) s (l .account)) (length (f .octets)) (f .port) (f .time) = simp b in
         ap (refusedWith 10) (sym (held-again (g .accounts) s (l .account)))
         ∙ ap (stored s (l .account)) d

@@ -10,10 +10,10 @@ use native.Mathlib.Omega.{arith}
 use lib.ListN.{length}
 use lib.Dec.{ltb, eqb}
 use borrow.Author.Tests.{lt-ltb, le-ltb, ltb-true, ltb-false, eqb-true, eqb-false}
-use Rattle.octets.proofs.Tests.{split, both, neither}
+use Rattle.lists.proofs.Tests.{split, both, neither}
 use Rattle.frame.specs.Frame.{lengthCode, constantField, linkNumber}
 use Rattle.frame.proofs.Frame.{by-length}
-use Rattle.account.specs.Terms.{capacity, cost}
+use Rattle.terms.specs.Terms.{capacity, cost}
 use Rattle.account.specs.Account.{termsOf, holding, valid, creditAt}
 use Rattle.account.specs.Step.{stepped, policed}
 use Rattle.account.specs.declared.Account.{Account}
@@ -61,24 +61,24 @@ verdicts-apart v w e = sym (heard-told v) ∙ ap heard e ∙ heard-told w
 
 -- ---- by cases of what is decided for a link and its account, the frame having the size of a frame
 module _ (l : Link) (used : ℕ) (a : Account) (n port t : ℕ) (z : lengthCode n ≡ 0) where
-  refused-port : (linkSound l used (a .smax) && valid a) ≡ true → (portCode l n port ≡ 0 → ⊥) → decided l used a n port t ≡ kept (portCode l n port) a
+  refused-port : (linkSound l used (a .terms .smax) && valid a) ≡ true → (portCode l n port ≡ 0 → ⊥) → decided l used a n port t ≡ kept (portCode l n port) a
   refused-port e h =
-      let b = both (linkSound l used (a .smax)) (valid a) e in decided-refused l used a n port t (b .0) (b .1) h
+      let b = both (linkSound l used (a .terms .smax)) (valid a) e in decided-refused l used a n port t (b .0) (b .1) h
 
-  on-step : (linkSound l used (a .smax) && valid a) ≡ true → portCode l n port ≡ 0 → decided l used a n port t ≡ stepOn l (policed a n t)
-  on-step e h = let b = both (linkSound l used (a .smax)) (valid a) e in decided-policed l used a n port t (b .0) (b .1) h
+  on-step : (linkSound l used (a .terms .smax) && valid a) ≡ true → portCode l n port ≡ 0 → decided l used a n port t ≡ stepOn l (policed a n t)
+  on-step e h = let b = both (linkSound l used (a .terms .smax)) (valid a) e in decided-policed l used a n port t (b .0) (b .1) h
 
   pub by-decided : (P : Decided → Type 0)
-      → ((linkSound l used (a .smax) && valid a) ≡ false → P (kept 10 a))
-      → ((linkSound l used (a .smax) && valid a) ≡ true → (portCode l n port ≡ 0 → ⊥) → P (kept (portCode l n port) a))
-      → ((linkSound l used (a .smax) && valid a) ≡ true → portCode l n port ≡ 0 → t < a .last → P (stepOn l (stepped (outcome.Late (a .credit)) a)))
-      → ((linkSound l used (a .smax) && valid a) ≡ true → portCode l n port ≡ 0 → a .last ≤ t → creditAt a t < cost (termsOf a) n
+      → ((linkSound l used (a .terms .smax) && valid a) ≡ false → P (kept 10 a))
+      → ((linkSound l used (a .terms .smax) && valid a) ≡ true → (portCode l n port ≡ 0 → ⊥) → P (kept (portCode l n port) a))
+      → ((linkSound l used (a .terms .smax) && valid a) ≡ true → portCode l n port ≡ 0 → t < a .last → P (stepOn l (stepped (outcome.Late (a .credit)) a)))
+      → ((linkSound l used (a .terms .smax) && valid a) ≡ true → portCode l n port ≡ 0 → a .last ≤ t → creditAt a t < cost (termsOf a) n
       → P (stepOn l (stepped (outcome.Short (creditAt a t)) (holding a (creditAt a t) t))))
-      → ((linkSound l used (a .smax) && valid a) ≡ true → portCode l n port ≡ 0 → a .last ≤ t → cost (termsOf a) n ≤ creditAt a t
+      → ((linkSound l used (a .terms .smax) && valid a) ≡ true → portCode l n port ≡ 0 → a .last ≤ t → cost (termsOf a) n ≤ creditAt a t
       → P (stepOn l (stepped (outcome.Forwarded (creditAt a t - cost (termsOf a) n)) (holding a (creditAt a t - cost (termsOf a) n) t))))
       → P (decided l used a n port t)
   by-decided P f g h i j =
-      split (linkSound l used (a .smax) && valid a)
+      split (linkSound l used (a .terms .smax) && valid a)
       (λ e.
       split (eqb (portCode l n port) 0)
       (λ m.
@@ -86,7 +86,7 @@ module _ (l : Link) (used : ℕ) (a : Account) (n port t : ℕ) (z : lengthCode 
       subst P (sym (on-step e k))
       (by-step a n t (λ q. P (stepOn l q))
       (λ d. absurd (d z))
-      (λ _ v. absurd (and-not (linkSound l used (a .smax)) (valid a) e v))
+      (λ _ v. absurd (and-not (linkSound l used (a .terms .smax)) (valid a) e v))
       (λ _ _. h e k)
       (λ _ _. i e k)
       (λ _ _. j e k)))
@@ -291,14 +291,14 @@ Below a d = (d .says .code ≡ 0) ⊎ (d .says .code ≡ 9) → d .credit < capa
 
 pub stored-below-capacity : StoredBelowCapacity
 stored-below-capacity l used a n port t =
-    split (linkSound l used (a .smax) && valid a)
+    split (linkSound l used (a .terms .smax) && valid a)
     (λ e.
-    let b = both (linkSound l used (a .smax)) (valid a) e in
+    let b = both (linkSound l used (a .terms .smax)) (valid a) e in
     split (eqb (portCode l n port) 0)
     (λ m.
     let k = eqb-true _ _ m in
     subst (Below a) (sym (decided-policed l used a n port t (b .0) (b .1) k))
-    (step-below-capacity a n t (le-trans (passed-largest l n port k) (sound-sizes l used (a .smax) (b .0) .2))))
+    (step-below-capacity a n t (le-trans (passed-largest l n port k) (sound-sizes l used (a .terms .smax) (b .0) .2))))
     (λ m.
     let k = eqb-false _ _ m in
     subst (Below a) (sym (decided-refused l used a n port t (b .0) (b .1) k)) (neither (portCode l n port) 0 9 k (λ q. omega (arith, port-code-high l n port)))))
@@ -318,8 +318,8 @@ ports-beyond g s f h =
     (λ z j.
     let l : Link = linkIn (linkTable (g .links)) j in
     let a : Account = accountHeld (g .accounts) s (l .account) in
-    let five : ((linkSound l (accountsInUse g s) (a .smax) && valid a) ≡ true → portCode l (length (f .octets)) (f .port) ≡ 5) =
-    λ e. other-port l (accountsInUse g s) (a .smax) (length (f .octets)) (f .port) (both (linkSound l (accountsInUse g s) (a .smax)) (valid a) e .0) h in
+    let five : ((linkSound l (accountsInUse g s) (a .terms .smax) && valid a) ≡ true → portCode l (length (f .octets)) (f .port) ≡ 5) =
+    λ e. other-port l (accountsInUse g s) (a .terms .smax) (length (f .octets)) (f .port) (both (linkSound l (accountsInUse g s) (a .terms .smax)) (valid a) e .0) h in
     by-decided l (accountsInUse g s) a (length (f .octets)) (f .port) (f .time) (frame-zero (g .constant) (f .octets) z)
     (λ d. (d .says .code ≡ 10) ⊎ ((1 ≤ d .says .code) × (d .says .code ≤ 5)))
     (λ _. inl refl)
@@ -337,8 +337,8 @@ decided-same l used a b n port t h =
     (λ e. ap (λ (x : Account). decided l used x n port t .says) (h (ltb-true _ _ e)))
     (λ e.
     let k = ltb-false _ _ e in
-    let p : linkSound l used (a .smax) ≡ false = sym (account-past l used (a .smax) k) in
-    let q : linkSound l used (b .smax) ≡ false = sym (account-past l used (b .smax) k) in
+    let p : linkSound l used (a .terms .smax) ≡ false = sym (account-past l used (a .terms .smax) k) in
+    let q : linkSound l used (b .terms .smax) ≡ false = sym (account-past l used (b .terms .smax) k) in
     simp (p, q))
 
 module _ (g : Config) (s : State) (g′ : Config) (s′ : State) (e : SameInUse g s g′ s′) (f : Call) where

@@ -5,7 +5,7 @@ use mathlib.Core.Bool.{not, _&&_}
 use mathlib.Core.List.{List}
 use lib.ListN.{length, getD, set}
 use lib.Dec.{eqb}
-use Rattle.octets.specs.Choice.{if_then_else_}
+use Rattle.lists.specs.Choice.{if_then_else_}
 use Rattle.account.specs.Account.{accountOf, valid}
 use Rattle.account.specs.Step.{Stepped, policed}
 use Rattle.account.specs.declared.Account.{Account}
@@ -74,7 +74,7 @@ stepOn l q = record { says = withMask (l .mask) (q .says); credit = q .account .
 -- 10 where the link's row or the account breaks a rule or the credit is above the capacity; then 5, 6 and 7; then the step
 unfoldable pub decided : Link → ℕ → Account → ℕ → ℕ → ℕ → Decided
 decided l used a n port t =
-    if not (linkSound l used (a .smax) && valid a) then kept 10 a
+    if not (linkSound l used (a .terms .smax) && valid a) then kept 10 a
     else if not (eqb (portCode l n port) 0) then kept (portCode l n port) a
     else stepOn l (policed a n t)
 

@@ -8,10 +8,10 @@ use mathlib.Core.Option.{none, some}
 use mathlib.Core.Path.{_≡_}
 use lib.ListN.{length, set}
 use lib.Dec.{ltb, eqb}
-use Rattle.octets.specs.Choice.{if_then_else_}
+use Rattle.lists.specs.Choice.{if_then_else_}
 use Rattle.frame.specs.Limits.{smallestFrame, largestFrame}
 use Rattle.frame.specs.Frame.{lengthCode, constantField, linkNumber}
-use Rattle.account.specs.Terms.{capacity, cost}
+use Rattle.terms.specs.Terms.{capacity, cost}
 use Rattle.account.specs.Account.{termsOf, valid, creditAt}
 use Rattle.account.specs.declared.Account.{Account}
 use Rattle.tables.specs.Rows.{Config, linkTable, linkIn, linksInUse, found}
@@ -57,7 +57,7 @@ firstFit (l ∷ ls) = if l .fits then l .code else firstFit ls
 -- the lines of a link l and its account a
 abbrev pub linkLines : Config → State → Call → Link → Account → List Line
 linkLines g s f l a =
-    line 10 (not (linkSound l (accountsInUse g s) (a .smax) && valid a))
+    line 10 (not (linkSound l (accountsInUse g s) (a .terms .smax) && valid a))
     ∷ line 5 (not (eqb (f .port) (l .port)))
     ∷ line 6 (ltb (length (f .octets)) (l .smallest))
     ∷ line 7 (ltb (l .largest) (length (f .octets)))

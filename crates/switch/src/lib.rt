@@ -63,7 +63,7 @@ fn decide(
 ) -> Decision
     ensures { λ r. ⌜ decisionOf r ≡ decided link used account octets port time ⌝ }
 {
-    if !link.sound(used, account.smax) {
+    if !link.sound(used, account.terms.smax) {
         return refused(UNSOUND, account);
     }
     if account.capacity() == 0 {
@@ -114,14 +114,11 @@ fn account_held(accounts: &[u8], credits: &[u32], lasts: &[u64], a: u16) -> Acco
 {
     let i = a as usize;
     let row = tables::ACCOUNT_OCTETS * i;
-    let credit = credit_at(credits, i);
-    let last = last_at(lasts, i);
-    tables::account_at(
-        &accounts[row..row + tables::ACCOUNT_OCTETS],
-        0,
-        credit,
-        last,
-    )
+    Account {
+        terms: tables::terms_at(&accounts[row..row + tables::ACCOUNT_OCTETS], 0),
+        credit: credit_at(credits, i),
+        last: last_at(lasts, i),
+    }
 }
 
 // A frame on a port at a time: its verdict, with the credit and the last time of its account stored. Any tables, counts

@@ -11,7 +11,7 @@ use Rattle.octets.specs.Runs.{octetsAt, put}
 use Rattle.octets.proofs.Parts.{getD-within, length-part, getD-part, part-octet}
 use Rattle.octets.proofs.Runs.{getD-put}
 use Rattle.rows.proofs.Rows.{near}
-use Rattle.account.specs.Terms.{Terms}
+use Rattle.terms.specs.declared.Terms.{Terms}
 use Rattle.tables.specs.Rows.{accountOctets, linkOctets, termsAt, linkAt}
 use Rattle.tables.specs.declared.Link.{Link}
 

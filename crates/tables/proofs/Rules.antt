@@ -4,11 +4,12 @@ use mathlib.Core.Bool.{Bool, true, false, not, _&&_}
 use mathlib.Core.Path.{_≡_, sym, ap, ap₂, _∙_}
 use lib.Dec.{ltb, leb, eqb}
 use borrow.Author.Tests.{lt-ltb, le-ltb, ltb-true, ltb-false, leb-true, le-leb, lt-leb, eq-eqb, ne-eqb, not-true, not-false}
-use Rattle.octets.proofs.Tests.{split, both}
+use Rattle.lists.proofs.Tests.{split, both}
 use Rattle.frame.specs.Limits.{smallestFrame}
 use lib.ListN.{length}
 use Rattle.octets.specs.Numbers.{numberAt}
-use Rattle.account.specs.Terms.{Terms, inLimits}
+use Rattle.terms.specs.Terms.{inLimits}
+use Rattle.terms.specs.declared.Terms.{Terms}
 use Rattle.rows.specs.Rows.{Rows}
 use Rattle.rows.proofs.Rows.{number-near}
 use Rattle.tables.specs.Rows.{termsAt, linkAt, accountIn, linkIn}

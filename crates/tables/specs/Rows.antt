@@ -7,7 +7,7 @@ use Rattle.octets.specs.Numbers.{numberAt}
 use Rattle.rows.specs.Rows.{Rows, tableOf, rowPlace, inUse, foundIn}
 use Rattle.rows.specs.declared.Found.{Found}
 use Rattle.rows.specs.declared.Found.the-variants.{At, Nowhere}
-use Rattle.account.specs.Terms.{Terms}
+use Rattle.terms.specs.declared.Terms.{Terms}
 use Rattle.tables.specs.declared.Link.{Link}
 use Rattle.tables.specs.declared.Sought.{Sought}
 use Rattle.tables.specs.declared.Sought.the-variants.{Present, Absent}

@@ -3,9 +3,9 @@
 use Prim.Native.Nat.{ℕ, _-_, _/_, _%_, _^_}
 use mathlib.Core.Bool.{Bool, true, not, _&&_}
 use lib.Dec.{ltb, leb, eqb}
-use Rattle.octets.specs.Choice.{if_then_else_}
+use Rattle.lists.specs.Choice.{if_then_else_}
 use Rattle.frame.specs.Limits.{smallestFrame}
-use Rattle.account.specs.Terms.{inLimits}
+use Rattle.terms.specs.Terms.{inLimits}
 use Rattle.rows.specs.Rows.{Rows}
 use Rattle.tables.specs.Rows.{accountIn, linkIn}
 use Rattle.tables.specs.declared.Link.{Link}

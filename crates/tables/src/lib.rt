@@ -4,13 +4,12 @@ ghost use mathlib.Core.Path.{_≡_};
 ghost use Prim.Native.Nat.{_+_, _≤_, _<_};
 ghost use lib.ListN.{length, getD};
 ghost use Rattle.octets.specs.Numbers.{numberAt};
-ghost use Rattle.account.specs.Account.{accountOf};
 ghost use Rattle.rows.specs.Rows.{rowsBy};
 ghost use Rattle.tables.specs.Rows.{accountOctets, termsAt, linkOctets, linkAt, accountIn, found, soughtIn};
 ghost use Rattle.tables.specs.Rules.{portsSound, sizesSound, linkSound, accountGood, numberRises, linkGood};
-use account::Account;
 use rows::Found;
 use rows::Spacing;
+use terms::Terms;
 
 // Octets of a row.
 pub const ACCOUNT_OCTETS: usize = 6;
@@ -58,31 +57,29 @@ fn u32_in(rows: &[u8], at: usize) -> u32
     octets::u32_at(&rows[at..at + 4], 0)
 }
 
-// The account of a row that is there, with a credit and a last time.
-fn account_in(rows: &[u8], at: usize, credit: u32, last: u64) -> Account
+// The account values of a row that is there.
+fn terms_in(rows: &[u8], at: usize) -> Terms
     requires { ⌜ at + accountOctets ≤ length (now rows) ⌝ }
-    ensures { λ r. ⌜ r ≡ accountOf (termsAt (now (rows .entry)) at) credit last ⌝ }
+    ensures { λ r. ⌜ r ≡ termsAt (now (rows .entry)) at ⌝ }
 {
-    Account {
+    Terms {
         smax: u16_in(rows, at),
         k: octet_in(rows, at + 2),
         jitter: u16_in(rows, at + 3),
         mode: octet_in(rows, at + 5),
-        credit,
-        last,
     }
 }
 
-// The account whose octets start at a place, with a credit and a last time; octets past the end are 0.
-pub fn account_at(rows: &[u8], at: usize, credit: u32, last: u64) -> Account
-    ensures { λ r. ⌜ r ≡ accountOf (termsAt (now (rows .entry)) at) credit last ⌝ }
+// The account values whose octets start at an offset; octets past the end are 0.
+pub fn terms_at(rows: &[u8], at: usize) -> Terms
+    ensures { λ r. ⌜ r ≡ termsAt (now (rows .entry)) at ⌝ }
 {
     if octets::has_room(rows.len(), at, ACCOUNT_OCTETS) {
-        return account_in(rows, at, credit, last);
+        return terms_in(rows, at);
     }
     let mut row = [0u8; ACCOUNT_OCTETS];
     laying::copy(rows, at, ACCOUNT_OCTETS, &mut row, 0);
-    account_in(&row, 0, credit, last)
+    terms_in(&row, 0)
 }
 
 // The link of a row that is there.
@@ -157,8 +154,7 @@ impl Link {
 pub fn account_good(run: &[u8], rows: Spacing, i: u16) -> bool
     ensures { λ r. ⌜ r ≡ accountGood (rowsBy (now (run .entry)) rows) i ⌝ }
 {
-    let a = account_at(run, rows::row_place(run, rows, i), 0, 0);
-    a.in_limits()
+    terms_at(run, rows::row_place(run, rows, i)).in_limits()
 }
 
 // Smax of row i of the accounts.

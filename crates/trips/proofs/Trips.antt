@@ -12,11 +12,12 @@ use Rattle.octets.specs.Numbers.{numberAt, octetsOf}
 use Rattle.octets.specs.Runs.{octetsAt, put}
 use Rattle.octets.proofs.Numbers.{number-shift, number-octets}
 use Rattle.octets.proofs.Parts.{length-part, getD-part, part-is, part-none, part-join, part-joined, part-take, joined-same, octets-number}
-use Rattle.account.specs.Terms.{Terms, capacity}
+use Rattle.terms.specs.Terms.{capacity}
+use Rattle.terms.specs.declared.Terms.{Terms}
 use Rattle.rows.specs.Rows.{rowOctets}
 use Rattle.tables.specs.Rows.{Config, accountOctets, linkOctets, accountTable, linkTable, accountIn, linkIn, configOf}
 use Rattle.tables.specs.Rules.{accountGood, linkGood}
-use Rattle.octets.proofs.Leading.{leading-before, leading-is}
+use Rattle.lists.proofs.Leading.{leading-before, leading-is}
 use Rattle.tables.proofs.Rows.{terms-part, link-part}
 use Rattle.tables.proofs.Rules.{account-good-same, link-good-same}
 use Rattle.fields.specs.Fields.{tagAndLength, fieldOf}

@@ -105,17 +105,17 @@ module _ {M : Type 1} (𝓤 : URA M) (H : Heap 𝓤) (A : Atoms 𝓤) (W : Given
   account-is r v is = LL.owed P.the-type P′.the-laws r (v ∷ []) is .1 .0
 
   credit-fits : (r : Policed) (v : Val) → Is P.the-row r (v ∷ []) → r .account .credit < 2 ^ 32
-  credit-fits r v is = LL.owed T.the-type T′.the-laws (r .account) _ (account-is r v is) .1 .1 .1 .1 .0 .1
+  credit-fits r v is = LL.owed T.the-type T′.the-laws (r .account) _ (account-is r v is) .1 .0 .1
 
   last-fits : (r : Policed) (v : Val) → Is P.the-row r (v ∷ []) → r .account .last < 2 ^ 64
-  last-fits r v is = LL.owed T.the-type T′.the-laws (r .account) _ (account-is r v is) .1 .1 .1 .1 .1 .0 .1
+  last-fits r v is = LL.owed T.the-type T′.the-laws (r .account) _ (account-is r v is) .1 .1 .0 .1
 
   -- what closing the borrow asks
   made : (r : Policed) → Is T.the-row h (ofA h) → Is T.the-row (r .account) (ofA (r .account)) → Is T.the-row (next r) (ofA (next r))
   made r was is =
       let g = LL.owed T.the-type T′.the-laws h (ofA h) was in
       let i = LL.owed T.the-type T′.the-laws (r .account) (ofA (r .account)) is in
-      LL.owes T.the-type T′.the-laws (next r) (g .0, (g .1 .0, (g .1 .1 .0, (g .1 .1 .1 .0, (i .1 .1 .1 .1 .0, (i .1 .1 .1 .1 .1 .0, tt))))))
+      LL.owes T.the-type T′.the-laws (next r) (g .0, (i .1 .0, (i .1 .1 .0, tt)))
 
   abbrev Post : Val → SProp 𝓤
   Post = walkOf 𝓤 H A f.ended stayed (f.clauses 𝓤 H A at-mem run) .post (((κ, tt), (q, tt), tt, x, at), tt)
@@ -164,8 +164,8 @@ module _ {M : Type 1} (𝓤 : URA M) (H : Heap 𝓤) (A : Atoms 𝓤) (W : Given
         land ! (from ! (stop !)) (init ! 10 refl (LL.lawful P.the-type P′.the-laws 𝓤 H A W .typed r _ is .0)) $
         rewrite ! 10 (λ (u : Val). ‵ (fat fullShare P′.mir l₄ 0 u)) (ap only (same r v is)) refl $ drop ! $
         -- the credit, the last time and the answer
-        assigns ! (of-opd ! (load ! (from ! (fld ! refl (fld ! refl (stop !)))) (look-in ! 9 (sub ! 4 refl (sub ! 1 refl (whole !)))))) (from ! (hop ! (look ! 15 refl) (fld ! refl (stop !)))) (store-in ! 0 (sub ! 4 refl (whole !)) (tt, record { fits = credit-fits r v is })) $
-        assigns ! (of-opd ! (load ! (from ! (fld ! refl (fld ! refl (stop !)))) (look-in ! 9 (sub ! 5 refl (sub ! 1 refl (whole !)))))) (from ! (hop ! (look ! 15 refl) (fld ! refl (stop !)))) (store-in ! 0 (sub ! 5 refl (whole !)) (tt, record { fits = last-fits r v is })) $
+        assigns ! (of-opd ! (load ! (from ! (fld ! refl (fld ! refl (stop !)))) (look-in ! 9 (sub ! 1 refl (sub ! 1 refl (whole !)))))) (from ! (hop ! (look ! 15 refl) (fld ! refl (stop !)))) (store-in ! 0 (sub ! 1 refl (whole !)) (tt, record { fits = credit-fits r v is })) $
+        assigns ! (of-opd ! (load ! (from ! (fld ! refl (fld ! refl (stop !)))) (look-in ! 9 (sub ! 2 refl (sub ! 1 refl (whole !)))))) (from ! (hop ! (look ! 15 refl) (fld ! refl (stop !)))) (store-in ! 0 (sub ! 2 refl (whole !)) (tt, record { fits = last-fits r v is })) $
         assigns ! (of-opd ! (load ! (from ! (fld ! refl (stop !))) (look-in ! 9 (sub ! 0 refl (whole !))))) (from ! (stop !)) (init ! 17 refl (EL.lawful O.the-type O′.the-laws 𝓤 H A W tt .typed (r .outcome) _ (outcome-is r v is) .0)) $
         -- the borrow is closed at the new account
         move ! (1 ∷ []) $ drop ! $ owned ! T.the-row (Is T.the-row) (LL.makes T.the-type T′.the-plain 𝓤 H A) (next r) _ (made r was (account-is r v is)) $ move ! (1 ∷ 0 ∷ []) $ closes ! tt T.the-row (next r) (ofA (next r)) b o $

@@ -4,8 +4,8 @@ use mathlib.Core.Path.{_≡_}
 use native.Mathlib.Numerals.{add-one}
 use native.Mathlib.Omega.{arith}
 use lib.ListN.{length}
-use Rattle.octets.specs.Leading.{leading}
-use Rattle.octets.proofs.Leading.{leading-zero}
+use Rattle.lists.specs.Leading.{leading}
+use Rattle.lists.proofs.Leading.{leading-zero}
 use Rattle.octets.proofs.Parts.{row-below}
 use Rattle.rows.specs.Rows.{tableOf, otherNumber}
 use Rattle.rows.proofs.Finding.{search-on, search-hit, search-miss}

@@ -7,26 +7,26 @@ use Rattle.switch.proofs.account_held.Tie as tie
 mul-row : tie.Need-mul-row
 mul-row c = search needs
 
+add-terms-at : tie.Need-add-terms-at
+add-terms-at c = search needs
+
+sub-terms-at : tie.Need-sub-terms-at
+sub-terms-at c = search needs
+
+part-terms-at-start : tie.Need-part-terms-at-start
+part-terms-at-start c = search needs
+
+part-terms-at-end : tie.Need-part-terms-at-end
+part-terms-at-end c = search needs
+
+terms-at-requires : tie.Need-terms-at-requires
+terms-at-requires c κs = search needs
+
 credit-at-requires : tie.Need-credit-at-requires
 credit-at-requires c κs = search needs
 
 last-at-requires : tie.Need-last-at-requires
 last-at-requires c κs = search needs
-
-add-account-at : tie.Need-add-account-at
-add-account-at c = search needs
-
-sub-account-at : tie.Need-sub-account-at
-sub-account-at c = search needs
-
-part-account-at-start : tie.Need-part-account-at-start
-part-account-at-start c = search needs
-
-part-account-at-end : tie.Need-part-account-at-end
-part-account-at-end c = search needs
-
-account-at-requires : tie.Need-account-at-requires
-account-at-requires c κs = search needs
 
 returns : tie.Need-returns
 returns c = search held-by
@@ -36,11 +36,11 @@ account-held-spec =
     tie.close
     (tie.spec
     mul-row
+    add-terms-at
+    sub-terms-at
+    part-terms-at-start
+    part-terms-at-end
+    terms-at-requires
     credit-at-requires
     last-at-requires
-    add-account-at
-    sub-account-at
-    part-account-at-start
-    part-account-at-end
-    account-at-requires
     returns)

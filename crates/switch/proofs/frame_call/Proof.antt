@@ -1,4 +1,5 @@
 -- `frame_call`: by its route; the account is in use where its credit and last time are stored. Assumes nothing.
+use native.Mathlib.Omega.{arith}
 use Rattle.switch.proofs.Call.{used-credit, used-last, used-row, call-stopped, call-unused, call-stored}
 use borrow.Author.Needs.{needs}
 use Rattle.switch.proofs.frame_call.Statement.{statement}
@@ -29,13 +30,13 @@ decide-requires : tie.Need-decide-requires
 decide-requires c κs = search needs
 
 mul-credits : tie.Need-mul-credits
-mul-credits c = search needs
+mul-credits c = omega (arith, c .before .before .before .before .before .struct-known .given)
 
 slice-write-credits : tie.Need-slice-write-credits
 slice-write-credits c = search used-credit
 
 mul-lasts : tie.Need-mul-lasts
-mul-lasts c = search needs
+mul-lasts c = omega (arith, c .before .before .before .before .before .struct-known .given)
 
 slice-write-lasts : tie.Need-slice-write-lasts
 slice-write-lasts c = search used-last

@@ -1,6 +1,4 @@
 -- `account_good`: the account read at its row. Assumes nothing.
-use mathlib.Core.Path.{ap}
-use Rattle.account.specs.Account.{termsOf}
 use Rattle.rows.specs.Rows.{rowsBy}
 use Rattle.tables.proofs.Rules.{account-row}
 use borrow.Author.Needs.{needs}
@@ -10,15 +8,15 @@ use Rattle.tables.proofs.account_good.Tie as tie
 row-place-requires : tie.Need-row-place-requires
 row-place-requires c κs = search needs
 
-account-at-requires : tie.Need-account-at-requires
-account-at-requires c κs = search needs
+terms-at-requires : tie.Need-terms-at-requires
+terms-at-requires c κs = search needs
 
 in-limits-requires : tie.Need-in-limits-requires
 in-limits-requires c κs = search needs
 
 returns : tie.Need-returns
-returns c = account-row (rowsBy _ _) _ _ (c .before .before .row-place .ensures) _ _ (ap termsOf (c .before .account-at .ensures)) (c .in-limits .ensures)
+returns c = account-row (rowsBy _ _) _ _ (c .before .before .row-place .ensures) _ _ (c .before .terms-at .ensures) (c .in-limits .ensures)
 
 pub account-good-spec : {M : Type 1} → statement M
 account-good-spec =
-    tie.close (tie.spec row-place-requires account-at-requires in-limits-requires returns)
+    tie.close (tie.spec row-place-requires terms-at-requires in-limits-requires returns)

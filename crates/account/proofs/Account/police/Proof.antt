@@ -2,8 +2,9 @@
 use mathlib.Core.Bool.{true}
 use mathlib.Core.Path.{_≡_, sym, _∙_}
 use Rattle.frame.specs.Frame.{lengthCode}
-use Rattle.frame.proofs.Frame.{within}
-use Rattle.account.specs.Account.{valid}
+use Rattle.terms.specs.Terms.{cost}
+use Rattle.terms.proofs.Methods.{cost-kept}
+use Rattle.account.specs.Account.{termsOf, valid}
 use Rattle.account.proofs.Methods.{none-invalid, some-valid, some-capacity, some-room, valid-limits}
 use Rattle.account.proofs.Step.{police-length, police-invalid, police-late, police-short, police-forwarded}
 use borrow.Author.Needs.{needs}
@@ -17,6 +18,11 @@ good c = sym (c .before .length-code .ensures) ∙ c .if1 .left
 -- past the second the account is valid
 sound : (c : tie.Else2) → valid (c .before .before .before .before .args .self) ≡ true
 sound c = some-valid _ _ (c .before .capacity .ensures) (c .if2 .left)
+
+-- the cost is that of the formula
+costs : (c : tie.After-cost) → let a = c .before .before .before .before .before .before .before .before .before .args in c .cost .result ≡ cost (termsOf (a .self)) (a .octets)
+costs c =
+    c .cost .ensures ∙ sym (cost-kept _ _ (good (c .before .before .before .before .before .before .before)) (valid-limits _ (sound (c .before .before .before .before .before))))
 
 length-code-requires : tie.Need-length-code-requires
 length-code-requires c κs = search needs
@@ -37,21 +43,22 @@ brought-to-requires : tie.Need-brought-to-requires
 brought-to-requires c κs =
     (some-capacity _ _ (c .before .before .before .capacity .ensures) (c .before .before .if2 .left), (some-room _ _ (c .before .before .before .capacity .ensures) (c .before .before .if2 .left), c .if3 .left))
 
-frame-cost-requires : tie.Need-frame-cost-requires
-frame-cost-requires c κs = (valid-limits _ (sound (c .before .before .before)), within _ (good (c .before .before .before .before .before)) .1)
+cost-requires : tie.Need-cost-requires
+cost-requires c κs = search needs
 
 returns-4 : tie.Need-returns-4
 returns-4 c =
-    police-short _ _ _ (good (c .before .before .before .before .before .before .before)) (sound (c .before .before .before .before .before)) (c .before .before .before .if3 .left)
-    _ (c .before .before .brought-to .ensures) _ (c .before .frame-cost .ensures) (c .if4 .taken)
+    police-short _ _ _ (good (c .before .before .before .before .before .before .before .before)) (sound (c .before .before .before .before .before .before))
+    (c .before .before .before .before .if3 .left) _ (c .before .before .before .brought-to .ensures) _ (costs (c .before)) (c .if4 .taken)
 
 holding-requires : tie.Need-holding-requires
 holding-requires c κs = search needs
 
 returns-5 : tie.Need-returns-5
 returns-5 c =
-    police-forwarded _ _ _ (good (c .before .before .before .before .before .before .before .before)) (sound (c .before .before .before .before .before .before)) (c .before .before .before .before .if3 .left)
-    _ (c .before .before .before .brought-to .ensures) _ (c .before .before .frame-cost .ensures) _ (c .before .if4 .left) (c .holding .ensures)
+    police-forwarded _ _ _ (good (c .before .before .before .before .before .before .before .before .before))
+    (sound (c .before .before .before .before .before .before .before)) (c .before .before .before .before .before .if3 .left)
+    _ (c .before .before .before .before .brought-to .ensures) _ (costs (c .before .before)) _ (c .before .if4 .left) (c .holding .ensures)
 
 pub police-spec : {M : Type 1} → statement M
 police-spec =
@@ -63,7 +70,7 @@ police-spec =
     returns-2
     returns-3
     brought-to-requires
-    frame-cost-requires
+    cost-requires
     returns-4
     holding-requires
     returns-5)

@@ -3,8 +3,8 @@ use Prim.Native.Nat.{_-_, _≤_}
 use mathlib.Core.Path.{_≡_}
 use native.Mathlib.Numerals.{add-one}
 use native.Mathlib.Omega.{arith}
-use Rattle.octets.specs.Leading.{leading}
-use Rattle.octets.proofs.Leading.{leading-zero, count-stops, count-goes-on, count-full}
+use Rattle.lists.specs.Leading.{leading}
+use Rattle.lists.proofs.Leading.{leading-zero, count-stops, count-goes-on, count-full}
 use Rattle.layout.specs.Layout.{accountTag, maxAccounts}
 use Rattle.image.specs.Read.{goodField, accountCount}
 use borrow.Author.Needs.{needs}

@@ -4,8 +4,8 @@ use mathlib.Core.Bool.{Bool}
 use mathlib.Core.Path.{_≡_}
 use native.Mathlib.Numerals.{add-one}
 use native.Mathlib.Omega.{arith}
-use Rattle.octets.specs.Leading.{leading}
-use Rattle.octets.proofs.Leading.{leading-zero, count-stops, count-goes-on, count-full}
+use Rattle.lists.specs.Leading.{leading}
+use Rattle.lists.proofs.Leading.{leading-zero, count-stops, count-goes-on, count-full}
 use Rattle.layout.specs.Layout.{linkTag, maxLinks}
 use Rattle.image.specs.Read.{goodField, linkCount}
 use Rattle.image.proofs.Passing.{links-none}

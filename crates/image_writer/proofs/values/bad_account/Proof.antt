@@ -3,12 +3,12 @@ use Prim.Native.Nat.{_-_, _≤_}
 use mathlib.Core.Path.{_≡_, ap, _∙_}
 use native.Mathlib.Numerals.{add-one}
 use native.Mathlib.Omega.{arith}
-use Rattle.octets.specs.Leading.{leading}
+use Rattle.lists.specs.Leading.{leading}
 use Rattle.rows.specs.Rows.{rowsBy}
 use Rattle.tables.specs.Rows.{accountTable}
 use Rattle.tables.specs.Rules.{accountGood}
 use Rattle.rows.specs.declared.Spacing.{Spacing}
-use Rattle.octets.proofs.Leading.{leading-zero, count-stops, count-goes-on, count-full}
+use Rattle.lists.proofs.Leading.{leading-zero, count-stops, count-goes-on, count-full}
 use borrow.Author.Needs.{needs}
 use Rattle.image_writer.proofs.values.bad_account.Statement.{statement}
 use Rattle.image_writer.proofs.values.bad_account.Tie as tie

@@ -3,12 +3,12 @@ use Prim.Native.Nat.{_-_, _≤_}
 use mathlib.Core.Path.{_≡_, ap₂, _∙_}
 use native.Mathlib.Numerals.{add-one}
 use native.Mathlib.Omega.{arith}
-use Rattle.octets.specs.Leading.{leading}
+use Rattle.lists.specs.Leading.{leading}
 use Rattle.rows.specs.Rows.{rowsBy}
 use Rattle.tables.specs.Rows.{accountTable, linkTable}
 use Rattle.tables.specs.Rules.{linkGood}
 use Rattle.rows.specs.declared.Spacing.{Spacing}
-use Rattle.octets.proofs.Leading.{leading-zero, count-stops, count-goes-on, count-full}
+use Rattle.lists.proofs.Leading.{leading-zero, count-stops, count-goes-on, count-full}
 use borrow.Author.Needs.{needs}
 use Rattle.image_writer.proofs.values.bad_link.Statement.{statement}
 use Rattle.image_writer.proofs.values.bad_link.Tie as tie

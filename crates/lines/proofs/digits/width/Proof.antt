@@ -4,7 +4,7 @@ use mathlib.Core.Path.{_≡_, _∙_}
 use native.Mathlib.Numerals.{add-one}
 use native.Mathlib.Omega.{arith}
 use lib.Dec.{leb}
-use Rattle.octets.specs.Leading.{leading}
+use Rattle.lists.specs.Leading.{leading}
 use Rattle.lines.specs.Digits.{tensLeft, moreDigits}
 use Rattle.lines.proofs.Decimal.{tens-none, tens-next, width-start, width-on, width-stop, width-full}
 use Rattle.lines.proofs.digits.width.Statement.{statement}

@@ -1,4 +1,4 @@
--- `capacity_of`: the account read at its data. Assumes nothing.
+-- `capacity_of`: the values read at their data. Assumes nothing.
 use Rattle.loader.proofs.Filling.{capacity-read}
 use borrow.Author.Needs.{needs}
 use Rattle.loader.proofs.fill.capacity_of.Statement.{statement}
@@ -7,15 +7,15 @@ use Rattle.loader.proofs.fill.capacity_of.Tie as tie
 data-place-requires : tie.Need-data-place-requires
 data-place-requires c κs = search needs
 
-account-at-requires : tie.Need-account-at-requires
-account-at-requires c κs = search needs
+terms-at-requires : tie.Need-terms-at-requires
+terms-at-requires c κs = search needs
 
 capacity-requires : tie.Need-capacity-requires
 capacity-requires c κs = search needs
 
 returns : tie.Need-returns
-returns c = capacity-read _ _ _ _ _ (c .before .before .data-place .ensures) (c .before .account-at .ensures) (c .capacity .ensures)
+returns c = capacity-read _ _ _ _ _ (c .before .before .data-place .ensures) (c .before .terms-at .ensures) (c .capacity .ensures)
 
 pub capacity-of-spec : {M : Type 1} → statement M
 capacity-of-spec =
-    tie.close (tie.spec data-place-requires account-at-requires capacity-requires returns)
+    tie.close (tie.spec data-place-requires terms-at-requires capacity-requires returns)
