@@ -2,7 +2,9 @@
 use super::room::Room;
 use super::say;
 use script::Line;
+use switch::Ingress;
 use switch::Verdict;
+use tables::Settings;
 
 // A verdict, with all credits and last times after it.
 struct After {
@@ -36,17 +38,19 @@ fn judged(
 ) -> After {
     let mut held = credits;
     let mut passed = lasts;
+    let settings = Settings {
+        constant: narrow(given.a),
+        accounts: given.b as usize,
+        links: given.c as usize,
+    };
     let verdict = switch::frame_call(
         frame,
-        port,
-        time,
-        narrow(given.a),
+        Ingress { port, time },
+        settings,
         &accounts[0..given.d as usize % 25],
         &mut held[0..given.e as usize % 5],
         &mut passed[0..given.f as usize % 5],
         &links[0..given.g as usize % 79],
-        given.b as usize,
-        given.c as usize,
     );
     After {
         verdict,

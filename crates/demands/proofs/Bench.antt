@@ -16,10 +16,10 @@ use Rattle.account.specs.Step.{judged, policed}
 use Rattle.rule.specs.Bench.{Case, termsP, byteCases, frameCases}
 use Rattle.lists.specs.Leading.{leading}
 use Rattle.rows.specs.Rows.{foundIn}
-use Rattle.tables.specs.Rows.{Config, termsAt, linkAt, accountIn}
+use Rattle.tables.specs.Rows.{Config, termsAt, linkAt, accountIn, configFor}
 use Rattle.tables.specs.Rules.{portsSound, sizesSound, linkSound, accountGood, numberRises, linkGood}
 use Rattle.layout.specs.Layout.{fieldPlace, constantGood}
-use Rattle.image.specs.Read.{accountFields, fieldCode, headGood, headCode, inOrder, dataOctets, isFull, valuesGood, nextCode, goodField, accountCount, linkCount, readEnd, readImage, configFor}
+use Rattle.image.specs.Read.{accountFields, fieldCode, headGood, headCode, inOrder, dataOctets, isFull, valuesGood, nextCode, goodField, accountCount, linkCount, readEnd, readImage}
 use Rattle.loader.specs.Loading.{Runs, runsOf, accountRows, linkRows, capacities, longEnough, loading}
 use Rattle.loader.specs.Fresh.{Begins, Fresh}
 use Rattle.image.specs.Bench.{accountP, linkP, imageP, answerP}
@@ -70,7 +70,7 @@ fresh-frame-p = fresh-by frameImageP accountP1 frame-p-reads refl refl refl
 
 -- ---- the answers from these, computed
 abbrev config-by : List ℕ → Loaded → Config
-config-by account q = configFor q account linkP
+config-by account q = configFor (q .settings) account linkP
 
 abbrev full : State
 full = stateOf (300000 ∷ []) (0 ∷ [])
@@ -106,7 +106,7 @@ module _ (s account : List ℕ) (e : readImage s ≡ answerP) (fresh : Fresh s (
       × (getD (left s r cases .lasts) 0 0 ≡ getD (final (config-by account answerP) full (calls cases) .lasts) 0 0)
   left-any cases =
       let f = loaded-fresh s r accepted in
-      let one : 0 < readImage s .accounts = rw e (lit< tt) in
+      let one : 0 < readImage s .settings .accounts = rw e (lit< tt) in
       let same = isolation-of-fresh-tables s 0 one (loading s r .runs) f (calls cases) (runs-of account) fresh (calls cases) refl in
       let g : loadedTables s r ≡ configIn s (loading s r .runs) = loaded-config s r accepted in (
         ap (λ (c : Config). getD (final c (stateIn (loading s r .runs)) (calls cases) .credits) 0 0) g ∙ same .credit

@@ -33,7 +33,7 @@ by-constructor (At j) f g = g j refl
 -- ---- the code by the image
 module _ (s : List ℕ) (f : Call) where
   abbrev pub frame-code : ℕ
-  frame-code = frameCode (readImage s .constant) (f .octets)
+  frame-code = frameCode (readImage s .settings .constant) (f .octets)
 
   pub filter-frame : (frame-code ≡ 0 → ⊥) → filterCode s f ≡ frame-code
   unfolding filterCode
@@ -54,13 +54,13 @@ module _ (s : List ℕ) (f : Call) where
   pub by-filter : {P : Type 0}
       → ((frame-code ≡ 0 → ⊥) → P)
       → (frame-code ≡ 0 → linkRow s f ≡ Nowhere → P)
-      → (frame-code ≡ 0 → (j : ℕ) → linkRow s f ≡ At j → j < readImage s .links → P)
+      → (frame-code ≡ 0 → (j : ℕ) → linkRow s f ≡ At j → j < readImage s .settings .links → P)
       → P
   by-filter stopped unknown over =
       split (eqb frame-code 0)
       (λ e.
       by-constructor (linkRow s f) (unknown (eqb-true _ _ e))
-      (λ j q. over (eqb-true _ _ e) j q (first-found (linkFields s (readImage s .accounts)) (readImage s .links) (linkNumber (f .octets)) j q .0)))
+      (λ j q. over (eqb-true _ _ e) j q (first-found (linkFields s (readImage s .settings .accounts)) (readImage s .settings .links) (linkNumber (f .octets)) j q .0)))
       (λ e. stopped (eqb-false _ _ e))
 
   -- ---- which frames pass to an account
@@ -71,7 +71,7 @@ module _ (s : List ℕ) (f : Call) where
     pub passes-link : (j : ℕ) → frame-code ≡ 0 → linkRow s f ≡ At j → filterCode s f ≡ 0 → passing s a f ≡ eqb (imageLink s j .account) a
     unfolding meant
     passes-link j z e c =
-        let w = within (length (f .octets)) (frame-zero (readImage s .constant) (f .octets) z) in
+        let w = within (length (f .octets)) (frame-zero (readImage s .settings .constant) (f .octets) z) in
         let l : leb destinationOctets (length (f .octets)) ≡ true = le-leb destinationOctets (length (f .octets)) (omega arith) in
         ap₂ _&&_ (ap₂ _&&_ l (ap (names s a) e)) (eq-eqb (filterCode s f) 0 c) ∙ and-true (eqb (imageLink s j .account) a)
 
@@ -82,9 +82,9 @@ module _ (s : List ℕ) (g : Config) (t : Tables s g) (q : State) (f : Call) whe
   row-is =
       let a = t .link-count in
       let b = t .link-room in
-      let m : linksInUse (g .links) (g .linkCount) ≡ readImage s .links = omega arith in
+      let m : linksInUse (g .links) (g .linkCount) ≡ readImage s .settings .links = omega arith in
       ap (λ (n : ℕ). foundIn (linkTable (g .links)) n (linkNumber (f .octets))) m
-      ∙ links-same (linkTable (g .links)) (linkFields s (readImage s .accounts)) (readImage s .links) (linkNumber (f .octets)) (t .link)
+      ∙ links-same (linkTable (g .links)) (linkFields s (readImage s .settings .accounts)) (readImage s .settings .links) (linkNumber (f .octets)) (t .link)
 
   code-is : frameCode (g .constant) (f .octets) ≡ frame-code s f
   code-is = ap (λ (c : ℕ). frameCode c (f .octets)) (t .constant)
@@ -99,5 +99,5 @@ module _ (s : List ℕ) (g : Config) (t : Tables s g) (q : State) (f : Call) whe
     pub call-nowhere : linkRow s f ≡ Nowhere → called g q f ≡ refusedWith 4 q
     call-nowhere e = by-image-row ∙ ap (onRow g q f) e
 
-    pub call-link : (j : ℕ) → linkRow s f ≡ At j → j < readImage s .links → called g q f ≡ onLink g q f (imageLink s j)
+    pub call-link : (j : ℕ) → linkRow s f ≡ At j → j < readImage s .settings .links → called g q f ≡ onLink g q f (imageLink s j)
     call-link j e h = by-image-row ∙ ap (onRow g q f) e ∙ ap (onLink g q f) (t .link j h)

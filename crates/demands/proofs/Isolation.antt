@@ -67,7 +67,7 @@ module _ (s : List ℕ) (a : ℕ) where
   reached-mine : (mine past : List Call) → mine ≡ only (meant s a) past → reachedIn s past a ≡ reachedIn s mine a
   reached-mine mine past e = sym (reached-meant past) ∙ ap (λ (c : List Call). reachedIn s c a) (sym e)
 
-  mine-holds : (g : Config) (mine : List Call) (q : State) → Mine g mine q → a < readImage s .accounts
+  mine-holds : (g : Config) (mine : List Call) (q : State) → Mine g mine q → a < readImage s .settings .accounts
       → accountHeld (g .accounts) q a ≡ account-of s mine a
   mine-holds g mine q m b = m .2 .is a b ∙ ap (state (imageTerms s a)) (reached-mine mine (m .0) (m .1))
 

@@ -74,10 +74,10 @@ verdict-for s past f = if not (eqb (filterCode s f) 0) then told (Refused (filte
 
 -- ---- each account is the one that the frames which reached it leave
 pub record Stands (s : List ℕ) (g : Config) (past : List Call) (q : State) : Type 0 where
-  pub credit-room : readImage s .accounts ≤ length (q .credits)
-  pub last-room : readImage s .accounts ≤ length (q .lasts)
-  pub is : (i : ℕ) → i < readImage s .accounts → accountHeld (g .accounts) q i ≡ account-of s past i
-  pub sound : (i : ℕ) → i < readImage s .accounts → Sound (imageTerms s i) (reachedIn s past i)
+  pub credit-room : readImage s .settings .accounts ≤ length (q .credits)
+  pub last-room : readImage s .settings .accounts ≤ length (q .lasts)
+  pub is : (i : ℕ) → i < readImage s .settings .accounts → accountHeld (g .accounts) q i ≡ account-of s past i
+  pub sound : (i : ℕ) → i < readImage s .settings .accounts → Sound (imageTerms s i) (reachedIn s past i)
 
 -- what a call answers and leaves, by the rule
 pub record Ruled (s : List ℕ) (g : Config) (past : List Call) (f : Call) (r : After) : Type 0 where
@@ -108,7 +108,7 @@ module _ (s : List ℕ) (g : Config) (t : Tables s g) (past : List Call) (q : St
       }
 
   -- an account that the frame goes over to
-  module _ (j : ℕ) (h : j < readImage s .links) (z : frame-code s f ≡ 0) (e : linkRow s f ≡ At j) where
+  module _ (j : ℕ) (h : j < readImage s .settings .links) (z : frame-code s f ≡ 0) (e : linkRow s f ≡ At j) where
     abbrev link : Link
     link = imageLink s j
 
@@ -118,10 +118,10 @@ module _ (s : List ℕ) (g : Config) (t : Tables s g) (past : List Call) (q : St
     abbrev n : ℕ
     n = length (f .octets)
 
-    known : a < readImage s .accounts
-    known = sound-account link (readImage s .accounts) _ (t .rules j h)
+    known : a < readImage s .settings .accounts
+    known = sound-account link (readImage s .settings .accounts) _ (t .rules j h)
 
-    all-used : accountsInUse g q ≡ readImage s .accounts
+    all-used : accountsInUse g q ≡ readImage s .settings .accounts
     unfolding inUse
     all-used =
         let b = t .account-count in
@@ -137,7 +137,7 @@ module _ (s : List ℕ) (g : Config) (t : Tables s g) (past : List Call) (q : St
     valid-account : valid account ≡ true
     valid-account = state-valid (imageTerms s a) (reachedIn s past a) (st .sound a known) (t .limits a known)
 
-    decided-is : (d : Decided) → decided link (readImage s .accounts) account n (f .port) (f .time) ≡ d
+    decided-is : (d : Decided) → decided link (readImage s .settings .accounts) account n (f .port) (f .time) ≡ d
         → onLink g q f link ≡ stored q a d
     decided-is d r =
         ap (stored q a) ((λ k. decided link (all-used k) (st .is a known k) n (f .port) (f .time)) ∙ r)
@@ -145,7 +145,7 @@ module _ (s : List ℕ) (g : Config) (t : Tables s g) (past : List Call) (q : St
     over-refused : (portCode link n (f .port) ≡ 0 → ⊥) → Ruled s g past f (onLink g q f link)
     over-refused m =
         let c : filterCode s f ≡ portCode link n (f .port) = filter-link s f z j e in
-        let d = decided-is (kept (portCode link n (f .port)) account) (decided-refused link (readImage s .accounts) account n (f .port) (f .time) (t .rules j h) valid-account m) in
+        let d = decided-is (kept (portCode link n (f .port)) account) (decided-refused link (readImage s .settings .accounts) account n (f .port) (f .time) (t .rules j h) valid-account m) in
         let p : account ≡ accountHeld (g .accounts) q a = sym (st .is a known) in
         let k : stateOf (set (q .credits) a (account .credit)) (set (q .lasts) a (account .last)) ≡ q =
         (λ i. stateOf (set (q .credits) a (p i .credit)) (set (q .lasts) a (p i .last))) ∙ held-again (g .accounts) q a in
@@ -158,7 +158,7 @@ module _ (s : List ℕ) (g : Config) (t : Tables s g) (past : List Call) (q : St
       zero-code = filter-link s f z j e ∙ m
 
       right-size : lengthCode n ≡ 0
-      right-size = frame-zero (readImage s .constant) (f .octets) z
+      right-size = frame-zero (readImage s .settings .constant) (f .octets) z
 
       agree : Agree (imageTerms s a) (policed account n (f .time)) (ruleArrived (imageTerms s a) (reachedIn s past a) n (f .time))
       agree = arrival (imageTerms s a) (reachedIn s past a) (st .sound a known) (t .limits a known) n (f .time) right-size
@@ -170,7 +170,7 @@ module _ (s : List ℕ) (g : Config) (t : Tables s g) (past : List Call) (q : St
       after = stateOf (set (q .credits) a (next .credit)) (set (q .lasts) a (next .last))
 
       -- the row of account i with what the runs hold for it
-      row-held : (w : State) (i : ℕ) → i < readImage s .accounts → accountHeld (g .accounts) w i ≡ accountOf (imageTerms s i) (getD (w .credits) i 0) (getD (w .lasts) i 0)
+      row-held : (w : State) (i : ℕ) → i < readImage s .settings .accounts → accountHeld (g .accounts) w i ≡ accountOf (imageTerms s i) (getD (w .credits) i 0) (getD (w .lasts) i 0)
       unfolding accountHeld
       row-held w i b = ap (λ (p : Terms). accountOf p (getD (w .credits) i 0) (getD (w .lasts) i 0)) (t .terms i b)
 
@@ -183,7 +183,7 @@ module _ (s : List ℕ) (g : Config) (t : Tables s g) (past : List Call) (q : St
           ∙ (λ i. accountOf (imageTerms s a) (getD-set-same (q .credits) a (next .credit) 0 (omega arith) i) (getD-set-same (q .lasts) a (next .last) 0 (omega arith) i))
           ∙ policed-keeps account n (f .time)
 
-      held-other : (i : ℕ) → i < readImage s .accounts → (i ≡ a → ⊥) → accountHeld (g .accounts) after i ≡ accountHeld (g .accounts) q i
+      held-other : (i : ℕ) → i < readImage s .settings .accounts → (i ≡ a → ⊥) → accountHeld (g .accounts) after i ≡ accountHeld (g .accounts) q i
       held-other i b ne =
           row-held after i b
           ∙ (λ k. accountOf (imageTerms s i) (getD-set-other (q .credits) a i (next .credit) 0 ne k) (getD-set-other (q .lasts) a i (next .last) 0 ne k))
@@ -199,7 +199,7 @@ module _ (s : List ℕ) (g : Config) (t : Tables s g) (past : List Call) (q : St
       past-other : (i : ℕ) → eqb a i ≡ false → reachedIn s (f ∷ past) i ≡ reachedIn s past i
       past-other i d = reached-same s past f i (passes i ∙ d)
 
-      next-is : (i : ℕ) → i < readImage s .accounts → accountHeld (g .accounts) after i ≡ account-of s (f ∷ past) i
+      next-is : (i : ℕ) → i < readImage s .settings .accounts → accountHeld (g .accounts) after i ≡ account-of s (f ∷ past) i
       next-is i b =
           split (eqb a i)
           (λ d.
@@ -208,7 +208,7 @@ module _ (s : List ℕ) (g : Config) (t : Tables s g) (past : List Call) (q : St
           (λ d.
           held-other i b (λ k. eqb-false a i d (sym k)) ∙ st .is i b ∙ ap (state (imageTerms s i)) (sym (past-other i d)))
 
-      next-sound : (i : ℕ) → i < readImage s .accounts → Sound (imageTerms s i) (reachedIn s (f ∷ past) i)
+      next-sound : (i : ℕ) → i < readImage s .settings .accounts → Sound (imageTerms s i) (reachedIn s (f ∷ past) i)
       next-sound i b =
           split (eqb a i)
           (λ d.
@@ -236,7 +236,7 @@ module _ (s : List ℕ) (g : Config) (t : Tables s g) (past : List Call) (q : St
       over-policed : Ruled s g past f (onLink g q f link)
       over-policed =
           subst (Ruled s g past f)
-          (sym (decided-is _ (decided-policed link (readImage s .accounts) account n (f .port) (f .time) (t .rules j h) valid-account m)))
+          (sym (decided-is _ (decided-policed link (readImage s .settings .accounts) account n (f .port) (f .time) (t .rules j h) valid-account m)))
           (record { code = code-is; verdict = verdict-is; stands = next-stands })
 
     over : Ruled s g past f (onLink g q f link)

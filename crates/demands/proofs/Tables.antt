@@ -20,23 +20,23 @@ use Rattle.demands.specs.Rule.{imageTerms, imageLink}
 
 -- what a call is lent holds the image's constant field, counts and rows, each within its rules
 pub record Tables (s : List ℕ) (g : Config) : Type 0 where
-  pub constant : g .constant ≡ readImage s .constant
-  pub account-count : g .accountCount ≡ readImage s .accounts
-  pub link-count : g .linkCount ≡ readImage s .links
-  pub account-room : accountOctets * readImage s .accounts ≤ length (g .accounts)
-  pub link-room : linkOctets * readImage s .links ≤ length (g .links)
-  pub terms : (i : ℕ) → i < readImage s .accounts → accountIn (accountTable (g .accounts)) i ≡ imageTerms s i
-  pub link : (j : ℕ) → j < readImage s .links → linkIn (linkTable (g .links)) j ≡ imageLink s j
-  pub limits : (i : ℕ) → i < readImage s .accounts → inLimits (imageTerms s i) ≡ true
-  pub rules : (j : ℕ) → j < readImage s .links
-      → linkSound (imageLink s j) (readImage s .accounts) (imageTerms s (imageLink s j .account) .smax) ≡ true
+  pub constant : g .constant ≡ readImage s .settings .constant
+  pub account-count : g .accountCount ≡ readImage s .settings .accounts
+  pub link-count : g .linkCount ≡ readImage s .settings .links
+  pub account-room : accountOctets * readImage s .settings .accounts ≤ length (g .accounts)
+  pub link-room : linkOctets * readImage s .settings .links ≤ length (g .links)
+  pub terms : (i : ℕ) → i < readImage s .settings .accounts → accountIn (accountTable (g .accounts)) i ≡ imageTerms s i
+  pub link : (j : ℕ) → j < readImage s .settings .links → linkIn (linkTable (g .links)) j ≡ imageLink s j
+  pub limits : (i : ℕ) → i < readImage s .settings .accounts → inLimits (imageTerms s i) ≡ true
+  pub rules : (j : ℕ) → j < readImage s .settings .links
+      → linkSound (imageLink s j) (readImage s .settings .accounts) (imageTerms s (imageLink s j .account) .smax) ≡ true
 
 module _ (s : List ℕ) (r : Runs) (f : Fresh s r) where
   abbrev n : ℕ
-  n = readImage s .accounts
+  n = readImage s .settings .accounts
 
   abbrev m : ℕ
-  m = readImage s .links
+  m = readImage s .settings .links
 
   holds : HoldsImage s r n m
   holds = fresh-holds s r f

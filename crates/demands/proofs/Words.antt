@@ -13,8 +13,8 @@ use Rattle.terms.specs.declared.Terms.{Terms}
 use Rattle.rule.specs.Bucket.{Reached, lastTime, ruleHolds}
 use Rattle.rule.specs.Rule.{allowance, ruleArrived}
 use Rattle.rule.proofs.Rule.{in-words}
-use Rattle.tables.specs.Rows.{Config}
-use Rattle.image.specs.Read.{readImage, configFor}
+use Rattle.tables.specs.Rows.{Config, configFor}
+use Rattle.image.specs.Read.{readImage}
 use Rattle.loader.specs.Loading.{Runs, loading}
 use Rattle.loader.specs.Fresh.{Fresh}
 use Rattle.image.specs.declared.Loaded.{Loaded}
@@ -37,7 +37,7 @@ module _ (s : List ℕ) (r : Runs) (z : loading s r .answer .code ≡ 0) where
   -- what loading answered is what reading answers
   pub loaded-config : loadedTables s r ≡ configIn s (loading s r .runs)
   loaded-config =
-      ap (λ (q : Loaded). configFor q (loading s r .runs .accounts) (loading s r .runs .links)) (load-fresh s r z .0)
+      ap (λ (q : Loaded). configFor (q .settings) (loading s r .runs .accounts) (loading s r .runs .links)) (load-fresh s r z .0)
 
 pub rule-of-history : RuleOfHistory
 rule-of-history s r z h =
@@ -84,7 +84,7 @@ others-in-words s r fresh before f =
 filter-code-high : (s : List ℕ) (f : Call) → filterCode s f ≤ 7
 filter-code-high s f =
     by-filter s f
-    (λ m. let k = frame-code-high (readImage s .constant) (f .octets) in let e = filter-frame s f m in omega arith)
+    (λ m. let k = frame-code-high (readImage s .settings .constant) (f .octets) in let e = filter-frame s f m in omega arith)
     (λ z e. let k = filter-unknown s f z e in omega arith)
     (λ z j e _. let k = filter-link s f z j e in let b = port-code-high (imageLink s j) (length (f .octets)) (f .port) in omega arith)
 

@@ -75,7 +75,7 @@ pub record SameAnswers (s : List ℕ) (a : ℕ) (g : Config) (t : State) (h : Li
 -- one image loaded twice, into any runs
 abbrev pub Isolation : Type 0
 Isolation =
-    (s : List ℕ) (a : ℕ) → a < readImage s .accounts
+    (s : List ℕ) (a : ℕ) → a < readImage s .settings .accounts
     → (r : Runs) → loading s r .answer .code ≡ 0 → (h : List Call)
     → (r′ : Runs) → loading s r′ .answer .code ≡ 0 → (h′ : List Call)
     → SameMeant s a h h′
@@ -84,7 +84,7 @@ Isolation =
 -- the same of any two sets of runs that begin with what loading writes
 abbrev pub IsolationOfFreshTables : Type 0
 IsolationOfFreshTables =
-    (s : List ℕ) (a : ℕ) → a < readImage s .accounts
+    (s : List ℕ) (a : ℕ) → a < readImage s .settings .accounts
     → (r : Runs) → Fresh s r → (h : List Call) → (r′ : Runs) → Fresh s r′ → (h′ : List Call)
     → SameMeant s a h h′
     → SameAnswers s a (configIn s r) (stateIn r) h (configIn s r′) (stateIn r′) h′

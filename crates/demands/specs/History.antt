@@ -3,8 +3,8 @@ use Prim.Native.Nat.{ℕ}
 use mathlib.Core.List.{List, map}
 use Rattle.lists.specs.History
 use Rattle.lists.specs.History.{Machine}
-use Rattle.tables.specs.Rows.{Config}
-use Rattle.image.specs.Read.{readImage, configFor}
+use Rattle.tables.specs.Rows.{Config, configFor}
+use Rattle.image.specs.Read.{readImage}
 use Rattle.loader.specs.Loading.{Runs}
 use Rattle.switch.specs.Verdict.{Told}
 use Rattle.switch.specs.Call.{State, stateOf, Call, called}
@@ -27,7 +27,7 @@ codes = map (λ w. w .code)
 -- what a call is lent of runs that begin with what loading an image wrote: the constant field, the counts and the rows; and the
 -- credits and last times
 abbrev pub configIn : List ℕ → Runs → Config
-configIn s r = configFor (readImage s) (r .accounts) (r .links)
+configIn s r = configFor (readImage s .settings) (r .accounts) (r .links)
 
 abbrev pub stateIn : Runs → State
 stateIn r = stateOf (r .credits) (r .lasts)

@@ -27,11 +27,11 @@ imageTerms s i = accountIn (accountFields s) i
 
 -- link j
 abbrev pub imageLink : List ℕ → ℕ → Link
-imageLink s j = linkIn (linkFields s (readImage s .accounts)) j
+imageLink s j = linkIn (linkFields s (readImage s .settings .accounts)) j
 
 -- where its links have the frame's number
 abbrev pub linkRow : List ℕ → Call → Found
-linkRow s f = foundIn (linkFields s (readImage s .accounts)) (readImage s .links) (linkNumber (f .octets))
+linkRow s f = foundIn (linkFields s (readImage s .settings .accounts)) (readImage s .settings .links) (linkNumber (f .octets))
 
 -- ---- the filter: the first of the codes 1 to 7 that fits a frame, or 0. By the row of its number, 4 or the codes of that link
 abbrev pub linkCode : List ℕ → Call → Found → ℕ
@@ -41,7 +41,7 @@ linkCode s f (At j) = portCode (imageLink s j) (length (f .octets)) (f .port)
 -- and before that by the frame alone
 unfoldable pub filterCode : List ℕ → Call → ℕ
 filterCode s f =
-    if not (eqb (frameCode (readImage s .constant) (f .octets)) 0) then frameCode (readImage s .constant) (f .octets)
+    if not (eqb (frameCode (readImage s .settings .constant) (f .octets)) 0) then frameCode (readImage s .settings .constant) (f .octets)
     else linkCode s f (linkRow s f)
 
 -- ---- for which account a frame is meant: the one that the image's link of its number names

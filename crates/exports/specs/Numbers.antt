@@ -4,6 +4,7 @@ use Prim.Native.Nat.{ℕ}
 use mathlib.Core.List.{List}
 use mathlib.Core.Option.{Option, none, some}
 use lib.Dec.{eqb}
+use Rattle.tables.specs.Rows.{settingsOf}
 use Rattle.lists.specs.Choice.{if_then_else_}
 use Rattle.frame.specs.declared.Header.{Header}
 use Rattle.terms.specs.Terms.{termsWith}
@@ -69,7 +70,7 @@ callDoneOf r = callDone (callSays (r .says)) (r .state)
 -- ---- reading and loading an image ("The configuration image"): code, offset, constant field, counts of accounts and links
 abbrev pub loadedWith : ℕ → ℕ → ℕ → ℕ → ℕ → Loaded
 loadedWith code offset constant accounts links =
-    record { code = code; offset = offset; constant = constant; accounts = accounts; links = links }
+    record { code = code; offset = offset; settings = settingsOf constant accounts links }
 
 -- ---- the receiving end's call (document 02, Q-1): the number of its answer, and the records that it leaves
 abbrev pub networkOf : ℕ → Network

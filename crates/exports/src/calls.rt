@@ -4,7 +4,9 @@ ghost use Rattle.tables.specs.Rows.{configOf};
 ghost use Rattle.switch.specs.Verdict.{told};
 ghost use Rattle.switch.specs.Call.{stateOf, callOf, called};
 ghost use Rattle.exports.specs.Numbers.{callNumbers, callSays, callDone, callDoneOf};
+use switch::Ingress;
 use switch::Verdict;
+use tables::Settings;
 
 // A verdict in numbers.
 struct CallNumbers {
@@ -63,17 +65,19 @@ pub extern "C" fn ashthulgo_frame_call(
         (stateOf (now (credits .entry)) (now (lasts .entry)))
         (callOf (now (frame .entry)) port time)) ⌝ }
 {
+    let settings = Settings {
+        constant,
+        accounts: account_count,
+        links: link_count,
+    };
     let verdict = switch::frame_call(
         frame,
-        port,
-        time,
-        constant,
+        Ingress { port, time },
+        settings,
         accounts,
         credits,
         lasts,
         links,
-        account_count,
-        link_count,
     );
     let said = numbers(verdict);
     *mask = said.mask;

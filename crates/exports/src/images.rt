@@ -18,9 +18,9 @@ fn tell(
     ensures { λ r. ⌜ loadedWith r (now (offset .exit)) (now (constant .exit)) (now («account_count» .exit)) (now («link_count» .exit)) ≡ answer ⌝ }
 {
     *offset = answer.offset;
-    *constant = answer.constant;
-    *account_count = answer.accounts;
-    *link_count = answer.links;
+    *constant = answer.settings.constant;
+    *account_count = answer.settings.accounts;
+    *link_count = answer.settings.links;
     answer.code
 }
 

@@ -133,12 +133,12 @@ counted-link s n j l = leading-before (λ k. goodField s linkTag n k) maxLinks j
 -- ---- an accepted image
 pub record Accepted (s : List ℕ) (q : Loaded) : Type 0 where
   pub head-code : headCode s ≡ 0
-  pub end-code : nextCode s (q .accounts) (q .links) ≡ 0
-  pub accounts-are : q .accounts ≡ accountCount s
-  pub links-are : q .links ≡ linkCount s (q .accounts)
+  pub end-code : nextCode s (q .settings .accounts) (q .settings .links) ≡ 0
+  pub accounts-are : q .settings .accounts ≡ accountCount s
+  pub links-are : q .settings .links ≡ linkCount s (q .settings .accounts)
   pub offset-is : q .offset ≡ length s
-  pub length-is : length s ≡ imageLength (q .accounts) (q .links)
-  pub constant-is : q .constant ≡ numberAt 4 s 4
+  pub length-is : length s ≡ imageLength (q .settings .accounts) (q .settings .links)
+  pub constant-is : q .settings .constant ≡ numberAt 4 s 4
 
 pub accepted : (s : List ℕ) → readImage s .code ≡ 0 → Accepted s (readImage s)
 accepted s =
@@ -159,7 +159,7 @@ accepted s =
 
 -- a refusal answers zeros
 abbrev pub Zeros : Loaded → Type 0
-Zeros q = (q .constant ≡ 0) × (q .accounts ≡ 0) × (q .links ≡ 0)
+Zeros q = (q .settings .constant ≡ 0) × (q .settings .accounts ≡ 0) × (q .settings .links ≡ 0)
 
 pub refused-zeros : (s : List ℕ) → (readImage s .code ≡ 0 → ⊥) → Zeros (readImage s)
 refused-zeros s =

@@ -94,8 +94,8 @@ longest s e h k = omega arith
 pub accepted-ends : AcceptedEnds
 accepted-ends s z =
     let a : Accepted s (readImage s) = accepted s z in
-    let n : ℕ = readImage s .accounts in
-    let m : ℕ = readImage s .links in (
+    let n : ℕ = readImage s .settings .accounts in
+    let m : ℕ = readImage s .settings .links in (
       end-tag s n m (a .accounts-are) (a .links-are) (a .end-code),
       a .length-is,
       some-accounts s n m (a .accounts-are) (a .links-are) (a .end-code),

@@ -9,7 +9,7 @@ use lib.ListN.{length, getD}
 use borrow.Author.Tests.{le-leb, lt-leb, eq-eqb, ne-eqb, eqb-true, not-true, not-false}
 use Rattle.octets.specs.Numbers.{numberAt}
 use Rattle.lists.proofs.Tests.{split, both}
-use Rattle.tables.specs.Rows.{accountOctets, linkOctets}
+use Rattle.tables.specs.Rows.{accountOctets, linkOctets, settingsOf}
 use Rattle.tables.specs.Rules.{accountGood, linkGood}
 use Rattle.lists.proofs.Leading.{leading-zero, leading-stop, leading-is}
 use Rattle.fields.specs.Fields.{tagAndLength, lengthAt, fieldAt, standsAt}
@@ -176,6 +176,6 @@ module _ (s : List ℕ) (n m : ℕ) (few : n ≤ maxAccounts) (some : 1 ≤ m) (
   unfolding linkCount
   counts-links = leading-is (λ j. goodField s linkTag n j) m maxLinks few-l ls (λ k. other-tag s linkTag n m (λ q. omega arith))
 
-  pub reads-as : readImage s ≡ record { code = 0; offset = length s; constant = numberAt 4 s 4; accounts = n; links = m }
+  pub reads-as : readImage s ≡ record { code = 0; offset = length s; settings = settingsOf (numberAt 4 s 4) n m }
   reads-as =
       sym (head-passed s _ refl h n m _ (sym counts-accounts) (sym counts-links) (end-accepted s n m _ refl e _ refl (omega arith) _ refl))

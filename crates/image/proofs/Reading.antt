@@ -6,6 +6,7 @@ use native.Mathlib.Omega.{arith}
 use lib.Dec.{ltb, eqb}
 use lib.ListN.{length}
 use borrow.Author.Tests.{lt-ltb, le-ltb, ltb-true, ltb-false, eq-eqb, ne-eqb, eqb-true, eqb-false}
+use Rattle.tables.specs.Rows.{settingsOf}
 use Rattle.octets.specs.Numbers.{numberAt}
 use Rattle.lists.proofs.Tests.{split}
 use Rattle.lists.proofs.Leading.{leading-high}
@@ -34,7 +35,7 @@ module _ (s : List ℕ) (n m : ℕ) (code : ℕ) (e : code ≡ nextCode s n m) w
     end-surplus h q v = v ∙ ap (refused 25) p ∙ simp (eq-eqb _ _ (sym e ∙ z), lt-ltb _ _ (rw p at h))
 
     pub end-accepted : length s ≤ end → (k : ℕ) → k ≡ numberAt 4 s 4
-        → _≡_ {A = Loaded} (record { code = 0; offset = length s; constant = k; accounts = n; links = m }) (readEnd s n m)
+        → _≡_ {A = Loaded} (record { code = 0; offset = length s; settings = settingsOf k n m }) (readEnd s n m)
     unfolding readEnd
     end-accepted h k c = rw c (simp (eq-eqb _ _ (sym e ∙ z), le-ltb _ _ (rw p at h)))
 
@@ -54,7 +55,7 @@ module _ (s : List ℕ) (P : Loaded → Type 0) where
   pub by-end : (n m : ℕ)
       → ((nextCode s n m ≡ 0 → ⊥) → P (refused (nextCode s n m) (fieldPlace n m)))
       → (nextCode s n m ≡ 0 → imageLength n m < length s → P (refused 25 (imageLength n m)))
-      → (nextCode s n m ≡ 0 → length s ≤ imageLength n m → P (record { code = 0; offset = length s; constant = numberAt 4 s 4; accounts = n; links = m }))
+      → (nextCode s n m ≡ 0 → length s ≤ imageLength n m → P (record { code = 0; offset = length s; settings = settingsOf (numberAt 4 s 4) n m }))
       → P (readEnd s n m)
   unfolding readEnd
   by-end n m f g h =
@@ -76,7 +77,7 @@ module _ (s : List ℕ) (P : Loaded → Type 0) where
 
 -- ---- so are those of an answer
 abbrev pub Few : Loaded → Type 0
-Few q = (q .accounts ≤ maxAccounts) × (q .links ≤ maxLinks)
+Few q = (q .settings .accounts ≤ maxAccounts) × (q .settings .links ≤ maxLinks)
 
 pub few-read : (s : List ℕ) → Few (readImage s)
 few-read s =
@@ -87,8 +88,8 @@ few-read s =
     (λ e h. (omega arith, omega arith))
     (λ e h. (few-accounts s, few-links s (accountCount s))))
 
-pub few-accounts-read : (s : List ℕ) (q : Loaded) → q ≡ readImage s → q .accounts ≤ maxAccounts
+pub few-accounts-read : (s : List ℕ) (q : Loaded) → q ≡ readImage s → q .settings .accounts ≤ maxAccounts
 few-accounts-read s q e = rw e (few-read s .0)
 
-pub few-links-read : (s : List ℕ) (q : Loaded) → q ≡ readImage s → q .links ≤ maxLinks
+pub few-links-read : (s : List ℕ) (q : Loaded) → q ≡ readImage s → q .settings .links ≤ maxLinks
 few-links-read s q e = rw e (few-read s .1)

@@ -4,7 +4,7 @@ use Prim.Native.Nat.{ℕ}
 use mathlib.Core.List.{List, [], _∷_, _++_}
 use mathlib.Core.Path.{_≡_}
 use Rattle.terms.specs.declared.Terms.{Terms}
-use Rattle.tables.specs.Rows.{Config, accountIn, linkIn}
+use Rattle.tables.specs.Rows.{Config, accountIn, linkIn, settingsOf}
 use Rattle.tables.specs.declared.Link.{Link}
 use Rattle.layout.specs.Layout.{imageOf}
 use Rattle.image.specs.Read.{accountFields, linkFields, readImage}
@@ -25,7 +25,7 @@ imageP =
 
 -- its constant field is 03 00 00 00; Smax 200, BAG 1,000 us, J 500 us, byte mode; link 7 on port 2 to port 3
 abbrev pub answerP : Loaded
-answerP = record { code = 0; offset = 36; constant = 50331648; accounts = 1; links = 1 }
+answerP = record { code = 0; offset = 36; settings = settingsOf 50331648 1 1 }
 
 abbrev pub termsP : Terms
 termsP = record { smax = 200; k = 0; jitter = 500; mode = 0 }

@@ -17,12 +17,12 @@ ReadCodes = (s : List ℕ) → List·Memᴰ (readImage s .code) (0 ∷ 20 ∷ 21
 abbrev pub AcceptedEnds : Type 0
 AcceptedEnds =
     (s : List ℕ) → readImage s .code ≡ 0
-    → (tagAt s (readImage s .accounts) (readImage s .links) ≡ endTag)
-    × (length s ≡ imageLength (readImage s .accounts) (readImage s .links))
-    × (1 ≤ readImage s .accounts)
-    × (1 ≤ readImage s .links)
-    × (readImage s .accounts ≤ maxAccounts)
-    × (readImage s .links ≤ maxLinks)
+    → (tagAt s (readImage s .settings .accounts) (readImage s .settings .links) ≡ endTag)
+    × (length s ≡ imageLength (readImage s .settings .accounts) (readImage s .settings .links))
+    × (1 ≤ readImage s .settings .accounts)
+    × (1 ≤ readImage s .settings .links)
+    × (readImage s .settings .accounts ≤ maxAccounts)
+    × (readImage s .settings .links ≤ maxLinks)
     × (length s ≤ longestImage)
 
 -- the same answer field by field: a good account or link is passed, and the first field that is neither ends the reading. From as

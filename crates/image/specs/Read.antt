@@ -8,7 +8,7 @@ use Rattle.lists.specs.Choice.{if_then_else_}
 use Rattle.octets.specs.Numbers.{numberAt}
 use Rattle.lists.specs.Leading.{leading}
 use Rattle.rows.specs.Rows.{Rows}
-use Rattle.tables.specs.Rows.{Config, accountOctets, linkOctets, configOf}
+use Rattle.tables.specs.Rows.{accountOctets, linkOctets, settingsOf}
 use Rattle.tables.specs.Rules.{accountGood, linkGood}
 use Rattle.fields.specs.Fields.{tagAndLength, fieldAt}
 use Rattle.fields.specs.declared.Field.{Field}
@@ -90,20 +90,16 @@ linkCount s n = leading (λ j. goodField s linkTag n j) maxLinks
 
 -- ---- the answer
 abbrev pub refused : ℕ → ℕ → Loaded
-refused code offset = record { code = code; offset = offset; constant = 0; accounts = 0; links = 0 }
+refused code offset = record { code = code; offset = offset; settings = settingsOf 0 0 0 }
 
 -- the field behind n accounts and m links ends the reading: it is refused, or it is the end
 unfoldable pub readEnd : List ℕ → ℕ → ℕ → Loaded
 readEnd s n m =
     if not (eqb (nextCode s n m) 0) then refused (nextCode s n m) (fieldPlace n m)
     else if ltb (imageLength n m) (length s) then refused 25 (imageLength n m)
-    else record { code = 0; offset = length s; constant = constantOf s; accounts = n; links = m }
+    else record { code = 0; offset = length s; settings = settingsOf (constantOf s) n m }
 
 unfoldable pub readImage : List ℕ → Loaded
 readImage s =
     if not (eqb (headCode s) 0) then refused (headCode s) 0
     else readEnd s (accountCount s) (linkCount s (accountCount s))
-
--- what a frame call is lent of an answer ("Accounts and links"): its constant field and counts, with the tables that were filled
-abbrev pub configFor : Loaded → List ℕ → List ℕ → Config
-configFor q accounts links = configOf (q .constant) accounts (q .accounts) links (q .links)

@@ -5,6 +5,7 @@ use super::Loaded;
 use super::field;
 use super::refused;
 use layout::codes;
+use tables::Settings;
 
 // The accounts behind the head, up to the first field that is none or is refused.
 pub(crate) fn count_accounts(image: &[u8]) -> u16
@@ -49,11 +50,14 @@ pub(crate) fn read_end(image: &[u8], accounts: u16, links: u16) -> Loaded
     if end < image.len() {
         return refused(codes::SURPLUS, end);
     }
-    Loaded {
-        code: 0,
-        offset: image.len(),
+    let settings = Settings {
         constant: octets::u32_at(image, layout::CONSTANT_PLACE),
         accounts: accounts as usize,
         links: links as usize,
+    };
+    Loaded {
+        code: 0,
+        offset: image.len(),
+        settings,
     }
 }

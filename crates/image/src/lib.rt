@@ -5,26 +5,29 @@ ghost use Rattle.image.specs.Read.{refused, readImage};
 mod count;
 mod field;
 
-// What reading or loading an image answers: the code, the offset that it speaks of, and on success the constant field
-// and the counts of accounts and links.
+use tables::Settings;
+
+// What reading or loading an image answers: the code, the offset that it speaks of, and on success the settings that the
+// image names.
 pub struct Loaded {
     pub code: u8,
     pub offset: usize,
-    pub constant: u32,
-    pub accounts: usize,
-    pub links: usize,
+    pub settings: Settings,
 }
 
 // A refusal: the code and the offset, and zeros.
 pub fn refused(code: u8, offset: usize) -> Loaded
     ensures { λ r. ⌜ r ≡ refused code offset ⌝ }
 {
-    Loaded {
-        code,
-        offset,
+    let settings = Settings {
         constant: 0,
         accounts: 0,
         links: 0,
+    };
+    Loaded {
+        code,
+        offset,
+        settings,
     }
 }
 

@@ -30,7 +30,7 @@ load-codes s r =
 pub refused-load-keeps : RefusedLoadKeeps
 refused-load-keeps s r =
     by-load s r
-    (λ w. (w .answer .code ≡ 0 → ⊥) → (w .runs ≡ r) × (w .answer .constant ≡ 0) × (w .answer .accounts ≡ 0) × (w .answer .links ≡ 0))
+    (λ w. (w .answer .code ≡ 0 → ⊥) → (w .runs ≡ r) × (w .answer .settings .constant ≡ 0) × (w .answer .settings .accounts ≡ 0) × (w .answer .settings .links ≡ 0))
     (λ d _. let z = refused-zeros s d in (refl, z .0, z .1, z .2))
     (λ z _ d. absurd (d z))
     (λ _ _ _. (refl, refl, refl, refl))
@@ -84,7 +84,7 @@ filled-beyond s n m r = (
 
 pub rows-beyond-kept : RowsBeyondKept
 rows-beyond-kept s r =
-    by-load s r (λ w. w .answer .code ≡ 0 → Beyond (w .answer .accounts) (w .answer .links) (w .runs) r)
+    by-load s r (λ w. w .answer .code ≡ 0 → Beyond (w .answer .settings .accounts) (w .answer .settings .links) (w .runs) r)
     (λ d z. absurd (d z))
-    (λ _ _ _. filled-beyond s (readImage s .accounts) (readImage s .links) r)
+    (λ _ _ _. filled-beyond s (readImage s .settings .accounts) (readImage s .settings .links) r)
     (λ _ _ z. absurd (omega arith))

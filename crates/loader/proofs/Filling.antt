@@ -65,11 +65,11 @@ capacities-good s n h =
 
 -- ---- what loading leaves: nothing where it refuses, else the rows that the image names
 module _ (s : List ℕ) (r : Runs) (q : Loaded) (e : q ≡ answerFor s r) (a c t l : List ℕ)
-    (p1 : a ≡ put (r .accounts) 0 (accountRows s (q .accounts)))
-    (p2 : c ≡ put (r .credits) 0 (joined (methodCapacity s) (q .accounts)))
-    (p3 : t ≡ put (r .lasts) 0 (replicate (q .accounts) 0))
-    (p4 : l ≡ put (r .links) 0 (linkRows s (q .accounts) (q .links))) where
-  keeps : q .accounts ≡ 0 → q .links ≡ 0 → runsOf a c t l ≡ r
+    (p1 : a ≡ put (r .accounts) 0 (accountRows s (q .settings .accounts)))
+    (p2 : c ≡ put (r .credits) 0 (joined (methodCapacity s) (q .settings .accounts)))
+    (p3 : t ≡ put (r .lasts) 0 (replicate (q .settings .accounts) 0))
+    (p4 : l ≡ put (r .links) 0 (linkRows s (q .settings .accounts) (q .settings .links))) where
+  keeps : q .settings .accounts ≡ 0 → q .settings .links ≡ 0 → runsOf a c t l ≡ r
   unfolding accountRows linkRows joined
   keeps n m =
       let a0 : a ≡ r .accounts = rw n at p1 ∙ put-none (r .accounts) 0 in
@@ -78,11 +78,11 @@ module _ (s : List ℕ) (r : Runs) (q : Loaded) (e : q ≡ answerFor s r) (a c t
       let l0 : l ≡ r .links = rw m at p4 ∙ put-none (r .links) 0 in
       rw (a0, c0, t0, l0)
 
-  fills : q .code ≡ 0 → runsOf a c t l ≡ filled s (q .accounts) (q .links) r
+  fills : q .code ≡ 0 → runsOf a c t l ≡ filled s (q .settings .accounts) (q .settings .links) r
   unfolding filled
   fills z =
-      let c1 : c ≡ put (r .credits) 0 (capacities (accountFields s) (q .accounts)) =
-      p2 ∙ ap (put (r .credits) 0) (capacities-good s (q .accounts) (loaded-good s r q e z)) in
+      let c1 : c ≡ put (r .credits) 0 (capacities (accountFields s) (q .settings .accounts)) =
+      p2 ∙ ap (put (r .credits) 0) (capacities-good s (q .settings .accounts) (loaded-good s r q e z)) in
       rw (p1, c1, p3, p4)
 
   pub load-is : loadingOf q (runsOf a c t l) ≡ loading s r

@@ -30,18 +30,18 @@ use Rattle.image.proofs.Accepted.{Accepted, accepted, counted-account, counted-
 
 -- ---- runs that are long enough for what an image names
 abbrev pub runsHeld : List ℕ → Runs → Bool
-runsHeld s r = longEnough (readImage s .accounts) (readImage s .links) r
+runsHeld s r = longEnough (readImage s .settings .accounts) (readImage s .settings .links) r
 
 -- by cases of what loading answers and leaves
 pub by-load : (s : List ℕ) (r : Runs) (P : Loading → Type 0)
     → ((readImage s .code ≡ 0 → ⊥) → P (loadingOf (readImage s) r))
-    → (readImage s .code ≡ 0 → runsHeld s r ≡ true → P (loadingOf (readImage s) (filled s (readImage s .accounts) (readImage s .links) r)))
+    → (readImage s .code ≡ 0 → runsHeld s r ≡ true → P (loadingOf (readImage s) (filled s (readImage s .settings .accounts) (readImage s .settings .links) r)))
     → (readImage s .code ≡ 0 → runsHeld s r ≡ false → P (loadingOf (refused 26 (length s)) r))
     → P (loading s r)
 unfolding loading
 by-load s r P f g h =
     by-loading s (length (r .accounts)) (length (r .credits)) (length (r .lasts)) (length (r .links))
-    (λ q. P (if eqb (q .code) 0 then loadingOf q (filled s (q .accounts) (q .links) r) else loadingOf q r))
+    (λ q. P (if eqb (q .code) 0 then loadingOf q (filled s (q .settings .accounts) (q .settings .links) r) else loadingOf q r))
     (λ d. simp (ne-eqb _ _ d) (f d))
     (λ z t. simp (eq-eqb _ _ z) (g z t))
     (λ z t. h z t)
@@ -137,11 +137,11 @@ module _ (s : List ℕ) (n m : ℕ) where
   unfolding capacities
   length-capacities = length-joined (λ i. fullCredit (accountFields s) i ∷ []) 1 (λ i. refl) n ∙ one-mul n
 
-pub filled-fresh : (s : List ℕ) (r : Runs) → readImage s .code ≡ 0 → runsHeld s r ≡ true → Fresh s (filled s (readImage s .accounts) (readImage s .links) r)
+pub filled-fresh : (s : List ℕ) (r : Runs) → readImage s .code ≡ 0 → runsHeld s r ≡ true → Fresh s (filled s (readImage s .settings .accounts) (readImage s .settings .links) r)
 unfolding filled
 filled-fresh s r z t =
-    let n : ℕ = readImage s .accounts in
-    let m : ℕ = readImage s .links in
+    let n : ℕ = readImage s .settings .accounts in
+    let m : ℕ = readImage s .settings .links in
     let h = held-long n m (length (r .accounts)) (length (r .credits)) (length (r .lasts)) (length (r .links)) t in
     let a : length (accountRows s n) ≡ accountOctets * n = length-account-rows s n m in
     let c : length (capacities (accountFields s) n) ≡ n = length-capacities s n m in
@@ -186,8 +186,8 @@ module _ (s : List ℕ) (n m : ℕ) (d : List ℕ) where
 
 pub fresh-holds : FreshHolds
 fresh-holds s r f =
-    let n : ℕ = readImage s .accounts in
-    let m : ℕ = readImage s .links in
+    let n : ℕ = readImage s .settings .accounts in
+    let m : ℕ = readImage s .settings .links in
     let a : length (accountRows s n) ≡ accountOctets * n = length-account-rows s n m in
     let c : length (capacities (accountFields s) n) ≡ n = length-capacities s n m in
     let u : length {A = ℕ} (replicate n 0) ≡ n = length-replicate n 0 in
@@ -240,10 +240,10 @@ rises-all l m h i (suc j) b c =
 
 module _ (s : List ℕ) (r : Runs) (f : Fresh s r) where
   abbrev n : ℕ
-  n = readImage s .accounts
+  n = readImage s .settings .accounts
 
   abbrev m : ℕ
-  m = readImage s .links
+  m = readImage s .settings .links
 
   -- what reading answered, and the rows held
   read : Accepted s (readImage s)
@@ -262,8 +262,8 @@ module _ (s : List ℕ) (r : Runs) (f : Fresh s r) where
 
 pub fresh-sound : FreshSound
 fresh-sound s r f =
-    let n : ℕ = readImage s .accounts in
-    let m : ℕ = readImage s .links in
+    let n : ℕ = readImage s .settings .accounts in
+    let m : ℕ = readImage s .settings .links in
     let a : Accepted s (readImage s) = read s r f in
     let k : n ≡ accountCount s = a .accounts-are in
     let g = link-good s r f in

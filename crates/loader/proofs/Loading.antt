@@ -43,9 +43,9 @@ module _ (s : List ℕ) (accounts credits lasts links : ℕ) (q : Loaded) (e : q
   unfolding loadAnswer
   load-refused d = e ∙ simp (ne-eqb _ _ (λ z. d (ap (λ (x : Loaded). x .code) e ∙ z)))
 
-  module _ (z : q .code ≡ 0) (r : Bool) (v : r ≡ runsHold (q .accounts) (q .links) accounts credits lasts links) where
-    held : r ≡ runsHold (readImage s .accounts) (readImage s .links) accounts credits lasts links
-    held = v ∙ ap (λ (x : Loaded). runsHold (x .accounts) (x .links) accounts credits lasts links) e
+  module _ (z : q .code ≡ 0) (r : Bool) (v : r ≡ runsHold (q .settings .accounts) (q .settings .links) accounts credits lasts links) where
+    held : r ≡ runsHold (readImage s .settings .accounts) (readImage s .settings .links) accounts credits lasts links
+    held = v ∙ ap (λ (x : Loaded). runsHold (x .settings .accounts) (x .settings .links) accounts credits lasts links) e
 
     pub load-held : r ≡ true → q ≡ loadAnswer s accounts credits lasts links
     unfolding loadAnswer
@@ -58,14 +58,14 @@ module _ (s : List ℕ) (accounts credits lasts links : ℕ) (q : Loaded) (e : q
 -- by cases of what loading answers
 pub by-loading : (s : List ℕ) (accounts credits lasts links : ℕ) (P : Loaded → Type 0)
     → ((readImage s .code ≡ 0 → ⊥) → P (readImage s))
-    → (readImage s .code ≡ 0 → runsHold (readImage s .accounts) (readImage s .links) accounts credits lasts links ≡ true → P (readImage s))
-    → (readImage s .code ≡ 0 → runsHold (readImage s .accounts) (readImage s .links) accounts credits lasts links ≡ false → P (refused 26 (length s)))
+    → (readImage s .code ≡ 0 → runsHold (readImage s .settings .accounts) (readImage s .settings .links) accounts credits lasts links ≡ true → P (readImage s))
+    → (readImage s .code ≡ 0 → runsHold (readImage s .settings .accounts) (readImage s .settings .links) accounts credits lasts links ≡ false → P (refused 26 (length s)))
     → P (loadAnswer s accounts credits lasts links)
 unfolding loadAnswer
 by-loading s accounts credits lasts links P f g h =
     split (eqb (readImage s .code) 0)
     (λ e.
-    split (runsHold (readImage s .accounts) (readImage s .links) accounts credits lasts links)
+    split (runsHold (readImage s .settings .accounts) (readImage s .settings .links) accounts credits lasts links)
     (λ t. simp (e, t) (g (eqb-true _ _ e) t))
     (λ t. simp (e, t) (h (eqb-true _ _ e) t)))
     (λ e. simp e (f (eqb-false _ _ e)))
@@ -75,10 +75,10 @@ few-loaded s accounts credits lasts links =
     by-loading s accounts credits lasts links Few (λ d. few-read s) (λ e t. few-read s) (λ e t. (omega arith, omega arith))
 
 module _ (s : List ℕ) (accounts credits lasts links : ℕ) (q : Loaded) (e : q ≡ loadAnswer s accounts credits lasts links) where
-  pub few-accounts-loaded : q .accounts ≤ maxAccounts
+  pub few-accounts-loaded : q .settings .accounts ≤ maxAccounts
   few-accounts-loaded = rw e (few-loaded s accounts credits lasts links .0)
 
-  pub few-links-loaded : q .links ≤ maxLinks
+  pub few-links-loaded : q .settings .links ≤ maxLinks
   few-links-loaded = rw e (few-loaded s accounts credits lasts links .1)
 
 -- ---- a refusal has no counts, and what is accepted has good accounts
@@ -87,16 +87,16 @@ module _ (s : List ℕ) (r : Runs) (q : Loaded) (e : q ≡ answerFor s r) where
       → ((readImage s .code ≡ 0 → ⊥) → P (readImage s)) → (readImage s .code ≡ 0 → P (readImage s)) → P (refused 26 (length s)) → P q
   by-answer P f g h = rw e (by-loading s (length (r .accounts)) (length (r .credits)) (length (r .lasts)) (length (r .links)) P f (λ z t. g z) (λ z t. h))
 
-  pub refused-none : (q .code ≡ 0 → ⊥) → (q .accounts ≡ 0) × (q .links ≡ 0)
+  pub refused-none : (q .code ≡ 0 → ⊥) → (q .settings .accounts ≡ 0) × (q .settings .links ≡ 0)
   refused-none =
-      by-answer (λ x. (x .code ≡ 0 → ⊥) → (x .accounts ≡ 0) × (x .links ≡ 0))
+      by-answer (λ x. (x .code ≡ 0 → ⊥) → (x .settings .accounts ≡ 0) × (x .settings .links ≡ 0))
       (λ d f. let z = refused-zeros s d in (z .1, z .2))
       (λ z f. absurd (f z))
       (λ f. (refl, refl))
 
-  pub loaded-good : q .code ≡ 0 → (i : ℕ) → i < q .accounts → accountGood (accountFields s) i ≡ true
+  pub loaded-good : q .code ≡ 0 → (i : ℕ) → i < q .settings .accounts → accountGood (accountFields s) i ≡ true
   loaded-good =
-      by-answer (λ x. x .code ≡ 0 → (i : ℕ) → i < x .accounts → accountGood (accountFields s) i ≡ true)
+      by-answer (λ x. x .code ≡ 0 → (i : ℕ) → i < x .settings .accounts → accountGood (accountFields s) i ≡ true)
       (λ d z. absurd (d z))
       (λ z w i l. let k = accepted s z .accounts-are in good-account s i (counted-account s i (omega arith)))
       (λ z. absurd (omega arith))

@@ -19,9 +19,9 @@ abbrev pub RefusedLoadKeeps : Type 0
 RefusedLoadKeeps =
     (s : List ℕ) (r : Runs) → (loading s r .answer .code ≡ 0 → ⊥)
     → (loading s r .runs ≡ r)
-    × (loading s r .answer .constant ≡ 0)
-    × (loading s r .answer .accounts ≡ 0)
-    × (loading s r .answer .links ≡ 0)
+    × (loading s r .answer .settings .constant ≡ 0)
+    × (loading s r .answer .settings .accounts ≡ 0)
+    × (loading s r .answer .settings .links ≡ 0)
 
 -- what reading refuses, loading refuses alike; what reading accepts, it refuses as 26 where a run is too short
 abbrev pub LoadRefuses : Type 0
@@ -29,7 +29,7 @@ LoadRefuses =
     (s : List ℕ) (r : Runs)
     → ((readImage s .code ≡ 0 → ⊥) → loading s r .answer ≡ readImage s)
     × (readImage s .code ≡ 0
-    → longEnough (readImage s .accounts) (readImage s .links) r ≡ false
+    → longEnough (readImage s .settings .accounts) (readImage s .settings .links) r ≡ false
     → loading s r .answer ≡ refused 26 (length s))
 
 -- the offset answered never lies past the image; success and 26 answer its length
@@ -44,10 +44,10 @@ OffsetsInside =
 abbrev pub RowsBeyondKept : Type 0
 RowsBeyondKept =
     (s : List ℕ) (r : Runs) → loading s r .answer .code ≡ 0
-    → (drop (accountOctets * loading s r .answer .accounts) (loading s r .runs .accounts) ≡ drop (accountOctets * loading s r .answer .accounts) (r .accounts))
-    × (drop (loading s r .answer .accounts) (loading s r .runs .credits) ≡ drop (loading s r .answer .accounts) (r .credits))
-    × (drop (loading s r .answer .accounts) (loading s r .runs .lasts) ≡ drop (loading s r .answer .accounts) (r .lasts))
-    × (drop (linkOctets * loading s r .answer .links) (loading s r .runs .links) ≡ drop (linkOctets * loading s r .answer .links) (r .links))
+    → (drop (accountOctets * loading s r .answer .settings .accounts) (loading s r .runs .accounts) ≡ drop (accountOctets * loading s r .answer .settings .accounts) (r .accounts))
+    × (drop (loading s r .answer .settings .accounts) (loading s r .runs .credits) ≡ drop (loading s r .answer .settings .accounts) (r .credits))
+    × (drop (loading s r .answer .settings .accounts) (loading s r .runs .lasts) ≡ drop (loading s r .answer .settings .accounts) (r .lasts))
+    × (drop (linkOctets * loading s r .answer .settings .links) (loading s r .runs .links) ≡ drop (linkOctets * loading s r .answer .settings .links) (r .links))
 
 -- an image of any length is loaded by its first octets, into any runs
 abbrev pub PrefixLoad : Type 0

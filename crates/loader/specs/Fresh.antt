@@ -18,10 +18,10 @@ Begins xs ys = take (length xs) ys ≡ xs
 -- the image is accepted, and the runs begin with what loading it writes
 pub record Fresh (s : List ℕ) (r : Runs) : Type 0 where
   pub accepted : readImage s .code ≡ 0
-  pub accounts : Begins (accountRows s (readImage s .accounts)) (r .accounts)
-  pub credits : Begins (capacities (accountFields s) (readImage s .accounts)) (r .credits)
-  pub lasts : Begins (replicate (readImage s .accounts) 0) (r .lasts)
-  pub links : Begins (linkRows s (readImage s .accounts) (readImage s .links)) (r .links)
+  pub accounts : Begins (accountRows s (readImage s .settings .accounts)) (r .accounts)
+  pub credits : Begins (capacities (accountFields s) (readImage s .settings .accounts)) (r .credits)
+  pub lasts : Begins (replicate (readImage s .settings .accounts) 0) (r .lasts)
+  pub links : Begins (linkRows s (readImage s .settings .accounts) (readImage s .settings .links)) (r .links)
 
 -- loading that answers 0 answers what reading does, constant field and counts, and leaves fresh tables; nothing is asked of the runs
 abbrev pub LoadFresh : Type 0
@@ -33,7 +33,7 @@ LoadFresh =
 abbrev pub LoadAccepts : Type 0
 LoadAccepts =
     (s : List ℕ) (r : Runs) → readImage s .code ≡ 0
-    → longEnough (readImage s .accounts) (readImage s .links) r ≡ true
+    → longEnough (readImage s .settings .accounts) (readImage s .settings .links) r ≡ true
     → loading s r .answer ≡ readImage s
 
 -- fresh tables hold the image's rows, and are long enough for them
@@ -43,7 +43,7 @@ pub record HoldsImage (s : List ℕ) (r : Runs) (n m : ℕ) : Type 0 where
   pub links : (j : ℕ) → j < m → linkIn (linkTable (r .links)) j ≡ linkIn (linkFields s n) j
 
 abbrev pub FreshHolds : Type 0
-FreshHolds = (s : List ℕ) (r : Runs) → Fresh s r → HoldsImage s r (readImage s .accounts) (readImage s .links)
+FreshHolds = (s : List ℕ) (r : Runs) → Fresh s r → HoldsImage s r (readImage s .settings .accounts) (readImage s .settings .links)
 
 -- tables of n accounts and m links in which code 10 fits no row: counts within the limits, runs that are long enough, values in
 -- order, credits full, last times 0; and each number stands once
@@ -58,4 +58,4 @@ pub record SoundTables (r : Runs) (n m : ℕ) : Type 0 where
   pub rising : (i j : ℕ) → i < j → j < m → linkIn (linkTable (r .links)) i .number < linkIn (linkTable (r .links)) j .number
 
 abbrev pub FreshSound : Type 0
-FreshSound = (s : List ℕ) (r : Runs) → Fresh s r → SoundTables r (readImage s .accounts) (readImage s .links)
+FreshSound = (s : List ℕ) (r : Runs) → Fresh s r → SoundTables r (readImage s .settings .accounts) (readImage s .settings .links)

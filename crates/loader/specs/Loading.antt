@@ -65,7 +65,7 @@ longEnough n m r = runsHold n m (length (r .accounts)) (length (r .credits)) (le
 unfoldable pub loadAnswer : List ℕ → ℕ → ℕ → ℕ → ℕ → Loaded
 loadAnswer s accounts credits lasts links =
     if not (eqb (readImage s .code) 0) then readImage s
-    else if runsHold (readImage s .accounts) (readImage s .links) accounts credits lasts links then readImage s
+    else if runsHold (readImage s .settings .accounts) (readImage s .settings .links) accounts credits lasts links then readImage s
     else refused 26 (length s)
 
 abbrev pub answerFor : List ℕ → Runs → Loaded
@@ -74,5 +74,5 @@ answerFor s r = loadAnswer s (length (r .accounts)) (length (r .credits)) (lengt
 unfoldable pub loading : List ℕ → Runs → Loading
 loading s r =
     if eqb (answerFor s r .code) 0
-    then loadingOf (answerFor s r) (filled s (answerFor s r .accounts) (answerFor s r .links) r)
+    then loadingOf (answerFor s r) (filled s (answerFor s r .settings .accounts) (answerFor s r .settings .links) r)
     else loadingOf (answerFor s r) r

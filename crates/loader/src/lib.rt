@@ -33,8 +33,8 @@ fn load_answer(image: &[u8], accounts: usize, credits: usize, lasts: usize, link
         return answer;
     }
     if runs_hold(
-        answer.accounts as u16,
-        answer.links as u16,
+        answer.settings.accounts as u16,
+        answer.settings.links as u16,
         accounts,
         credits,
         lasts,
@@ -65,8 +65,8 @@ pub fn load(
     );
     fill::fill_runs(
         image,
-        answer.accounts as u16,
-        answer.links as u16,
+        answer.settings.accounts as u16,
+        answer.settings.links as u16,
         accounts,
         credits,
         lasts,

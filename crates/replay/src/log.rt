@@ -1,11 +1,11 @@
 // The frames of `rig.frames`, read through one buffer and answered through another.
 ghost use Prim.Native.Nat.{_≤_};
 ghost use lib.ListN.{length};
-use image::Loaded;
 use libc::STDOUT_FILENO;
 use rig::log::Entry;
 use rig::replies::answer;
 use switch::Verdict;
+use tables::Settings;
 
 // Octets read at once, those of the longest record and more, and characters written at once.
 const READ_OCTETS: usize = 4 * rig::log::LONGEST_RECORD;
@@ -87,7 +87,7 @@ fn answer_hand(
     log: &[u8],
     whole: bool,
     from: Progress,
-    loaded: Loaded,
+    settings: Settings,
     buffer: &mut [u8; frame::LARGEST_FRAME],
     out: &mut [u8],
     accounts: &[u8],
@@ -103,7 +103,16 @@ fn answer_hand(
         let Entry::Frame(stamp) = entry else {
             return stop(entry, from.hand, at, place, frames, out);
         };
-        let verdict = answer(log, stamp, loaded, buffer, accounts, credits, lasts, links);
+        let verdict = answer(
+            log,
+            stamp,
+            settings,
+            buffer,
+            accounts,
+            credits,
+            lasts,
+            links,
+        );
         frames += 1;
         place = say(out, place, frames, verdict);
         at = stamp.behind;
@@ -126,7 +135,7 @@ fn turn(
     file: i32,
     log: &mut [u8],
     progress: Progress,
-    loaded: Loaded,
+    settings: Settings,
     buffer: &mut [u8; frame::LARGEST_FRAME],
     out: &mut [u8],
     accounts: &[u8],
@@ -147,7 +156,7 @@ fn turn(
         &log[0..hand],
         whole,
         from,
-        loaded,
+        settings,
         buffer,
         out,
         accounts,
@@ -162,7 +171,7 @@ fn run(
     file: i32,
     log: &mut [u8],
     start: Progress,
-    loaded: Loaded,
+    settings: Settings,
     buffer: &mut [u8; frame::LARGEST_FRAME],
     out: &mut [u8],
     accounts: &[u8],
@@ -180,7 +189,7 @@ fn run(
             file,
             log,
             progress,
-            loaded,
+            settings,
             buffer,
             out,
             accounts,
@@ -196,7 +205,7 @@ fn run(
 // Replays a log that is open for reading, by the tables that were loaded.
 pub(crate) fn replay(
     file: i32,
-    loaded: Loaded,
+    settings: Settings,
     accounts: &[u8],
     credits: &mut [u32],
     lasts: &mut [u64],
@@ -216,7 +225,7 @@ pub(crate) fn replay(
         file,
         &mut log,
         start,
-        loaded,
+        settings,
         &mut buffer,
         &mut out,
         accounts,

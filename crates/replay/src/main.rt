@@ -39,6 +39,7 @@ fn main() {
         return;
     }
     let file = os::open_read(b"rig.frames");
-    log::replay(file, loaded, &accounts, &mut credits, &mut lasts, &links);
+    let settings = loaded.settings;
+    log::replay(file, settings, &accounts, &mut credits, &mut lasts, &links);
     libc::close(file);
 }

@@ -4,17 +4,18 @@ ghost use Prim.Native.Nat.{_≤_};
 ghost use lib.ListN.{length, take};
 ghost use Rattle.switch.specs.Verdict.{told};
 ghost use Rattle.switch.specs.Call.{stateOf, callOf, afterOf, called};
-ghost use Rattle.image.specs.Read.{configFor};
+ghost use Rattle.tables.specs.Rows.{configFor};
 ghost use Rattle.rig.specs.Answer.{recordCall, answeredOf, answered};
 use super::log::Stamped;
-use image::Loaded;
+use switch::Ingress;
 use switch::Verdict;
+use tables::Settings;
 
 // The call of the frame that a buffer begins with.
 fn judge(
     buffer: &[u8],
     stamp: Stamped,
-    loaded: Loaded,
+    settings: Settings,
     accounts: &[u8],
     credits: &mut [u32],
     lasts: &mut [u64],
@@ -23,22 +24,23 @@ fn judge(
     requires { ⌜ stamp .size ≤ length (now buffer) ⌝ }
     ensures { λ r. ⌜ afterOf (told r) (stateOf (now (credits .exit)) (now (lasts .exit)))
         ≡ called
-        (configFor loaded (now (accounts .entry)) (now (links .entry)))
+        (configFor settings (now (accounts .entry)) (now (links .entry)))
         (stateOf (now (credits .entry)) (now (lasts .entry)))
         (callOf (take (stamp .size) (now (buffer .entry))) (stamp .port) (stamp .time)) ⌝ }
 {
     let size = stamp.size;
+    let ingress = Ingress {
+        port: stamp.port as u32,
+        time: stamp.time,
+    };
     switch::frame_call(
         &buffer[0..size],
-        stamp.port as u32,
-        stamp.time,
-        loaded.constant,
+        ingress,
+        settings,
         accounts,
         credits,
         lasts,
         links,
-        loaded.accounts,
-        loaded.links,
     )
 }
 
@@ -47,7 +49,7 @@ fn judge(
 pub fn answer(
     log: &[u8],
     stamp: Stamped,
-    loaded: Loaded,
+    settings: Settings,
     buffer: &mut [u8; frame::LARGEST_FRAME],
     accounts: &[u8],
     credits: &mut [u32],
@@ -56,7 +58,7 @@ pub fn answer(
 ) -> Verdict
     ensures { λ r. ⌜ answeredOf (afterOf (told r) (stateOf (now (credits .exit)) (now (lasts .exit)))) (now (buffer .exit))
         ≡ answered
-        (configFor loaded (now (accounts .entry)) (now (links .entry)))
+        (configFor settings (now (accounts .entry)) (now (links .entry)))
         (stateOf (now (credits .entry)) (now (lasts .entry)))
         (now (buffer .entry))
         (recordCall (now (log .entry)) stamp) ⌝ }
@@ -65,5 +67,5 @@ pub fn answer(
     if frame::LARGEST_FRAME < stamp.size {
         return Verdict::Refused(frame::length_code(stamp.size));
     }
-    judge(buffer, stamp, loaded, accounts, credits, lasts, links)
+    judge(buffer, stamp, settings, accounts, credits, lasts, links)
 }

@@ -61,7 +61,8 @@ pub(crate) fn answer(a: Loaded) {
     say::arrow();
     say::two(a.code as u64, a.offset as u64);
     say::bar();
-    say::three(a.constant as u64, a.accounts as u64, a.links as u64);
+    let s = a.settings;
+    say::three(s.constant as u64, s.accounts as u64, s.links as u64);
 }
 
 fn read(n: u8, m: u16, size: usize, at: usize, x: u64) {

@@ -1,19 +1,21 @@
 -- Laws of the frame call, case by case as the code goes. Assumes nothing.
 use Prim.Native.Nat.{ℕ, _+_, _-_, _*_, _/_, _≤_, _<_, min}
-use mathlib.Core.Bool.{Bool, true, false, not, _&&_}
+use mathlib.Core.Bool.{Bool, true, false, not, _&&_, false≢true}
 use mathlib.Core.List.{List}
 use mathlib.Core.Path.{_≡_, refl, sym, ap, _∙_}
 use native.Mathlib.Nat.{zero-add, mul-comm, div-mul-le-self}
 use native.Mathlib.Omega.{arith}
 use lib.ListN.{length, getD, set, take, drop}
 use lib.Seq.{set-getD}
-use borrow.Author.Tests.{eq-eqb, ne-eqb, not-true, not-false}
-use Rattle.frame.specs.Frame.{linkNumber}
+use lib.Dec.{eqb}
+use borrow.Author.Tests.{eq-eqb, ne-eqb, eqb-true, eqb-false, not-true, not-false}
+use Rattle.lists.proofs.Tests.{split}
+use Rattle.frame.specs.Frame.{lengthCode, linkNumber}
 use Rattle.terms.specs.declared.Terms.{Terms}
-use Rattle.account.specs.Account.{accountOf, valid, capacityOf}
+use Rattle.account.specs.Account.{accountOf, valid}
 use Rattle.account.specs.Step.{Stepped, policed}
 use Rattle.account.specs.declared.Account.{Account}
-use Rattle.account.proofs.Methods.{none-invalid, some-valid}
+use Rattle.account.proofs.Step.{by-step}
 use Rattle.tables.specs.Rows.{Config, accountOctets, termsAt, found}
 use Rattle.tables.specs.Rules.{linkSound}
 use Rattle.rows.specs.declared.Found.{Found}
@@ -22,10 +24,10 @@ use Rattle.tables.proofs.Rows.{terms-within}
 use Rattle.tables.proofs.Rules.{account-past}
 use Rattle.filter.specs.declared.Route.{Route}
 use Rattle.filter.specs.declared.Route.the-variants.{Stopped, Over}
-use Rattle.switch.specs.Verdict.{Told, withMask}
+use Rattle.switch.specs.Verdict.{Told, withMask, refusalOf}
 use Rattle.filter.specs.Filter.{frameCode, portCode, routeTo, routed}
 use Rattle.switch.specs.Call.{State, stateOf, Call, After, inUse, accountsInUse, accountHeld, Decided, kept, stepOn, decided, stored, refusedWith, settled, called}
-use Rattle.filter.proofs.Filter.{route-stopped, route-row}
+use Rattle.filter.proofs.Filter.{frame-zero, route-stopped, route-row}
 
 pub in-use-by : (n a c t q r u : ℕ) → q ≡ min c t → r ≡ min (a / accountOctets) q → u ≡ min n r → u ≡ inUse n a c t
 unfolding inUse
@@ -64,26 +66,53 @@ pub held-again : (accounts : List ℕ) (s : State) (i : ℕ)
 unfolding accountHeld
 held-again accounts s i = λ k. stateOf (set-getD (s .credits) i 0 k) (set-getD (s .lasts) i 0 k)
 
+-- ---- of a frame's size the step refuses an invalid account alone, as 10
+module _ (a : Account) (n t : ℕ) (z : lengthCode n ≡ 0) where
+  refusal-invalid : valid a ≡ false → refusalOf (policed a n t .says) ≡ 10
+  refusal-invalid v =
+      by-step a n t (λ q. refusalOf (q .says) ≡ 10)
+      (λ m. absurd (m z)) (λ _ _. refl)
+      (λ _ w. absurd (false≢true (sym v ∙ w))) (λ _ w. absurd (false≢true (sym v ∙ w))) (λ _ w. absurd (false≢true (sym v ∙ w)))
+
+  refusal-valid : valid a ≡ true → refusalOf (policed a n t .says) ≡ 0
+  refusal-valid v =
+      by-step a n t (λ q. refusalOf (q .says) ≡ 0)
+      (λ m. absurd (m z)) (λ _ w. absurd (false≢true (sym w ∙ v)))
+      (λ _ _ _. refl) (λ _ _ _ _. refl) (λ _ _ _ _. refl)
+
 -- ---- what is decided
 module _ (l : Link) (used : ℕ) (a : Account) (n port t : ℕ) (r : Bool) (e : r ≡ linkSound l used (a .terms .smax)) where
   pub decided-link : not r ≡ true → (d : Decided) → d ≡ kept 10 a → d ≡ decided l used a n port t
   unfolding decided
   decided-link h d q = q ∙ simp (← e, not-true r h)
 
-  module _ (h : not r ≡ false) (c : ℕ) (f : c ≡ capacityOf a) where
-    pub decided-account : c ≡ 0 → (d : Decided) → d ≡ kept 10 a → d ≡ decided l used a n port t
+  -- the step is in hand, and the code c with which it refuses
+  module _ (h : not r ≡ false) (z : lengthCode n ≡ 0) (s : Stepped) (u : s ≡ policed a n t) (c : ℕ) (f : c ≡ refusalOf (s .says)) where
+    refusal-is : c ≡ refusalOf (policed a n t .says)
+    refusal-is = f ∙ ap (λ (q : Stepped). refusalOf (q .says)) u
+
+    pub decided-account : (c ≡ 0 → ⊥) → (d : Decided) → d ≡ kept c a → d ≡ decided l used a n port t
     unfolding decided
-    decided-account z d q = q ∙ simp (← e, not-false r h, none-invalid a c f z)
+    decided-account m d q =
+        split (valid a)
+        (λ v. absurd (m (refusal-is ∙ refusal-valid a n t z v)))
+        (λ v. q ∙ ap (λ (x : ℕ). kept x a) (refusal-is ∙ refusal-invalid a n t z v) ∙ simp (← e, not-false r h, v))
 
-    module _ (z : c ≡ 0 → ⊥) (x : ℕ) (p : x ≡ portCode l n port) where
-      pub decided-port : (x ≡ 0 → ⊥) → (d : Decided) → d ≡ kept x a → d ≡ decided l used a n port t
-      unfolding decided
-      decided-port m d q = q ∙ simp (← e, not-false r h, some-valid a c f z, p, ne-eqb (portCode l n port) 0 (rw p at m))
+    module _ (m : c ≡ 0) where
+      sound : valid a ≡ true
+      sound =
+          split (valid a) (λ v. v)
+          (λ v. let k : c ≡ 10 = refusal-is ∙ refusal-invalid a n t z v in absurd (omega arith))
 
-      pub decided-step : x ≡ 0 → (q : Stepped) (w : Told) → q ≡ policed a n t → w ≡ withMask (l .mask) (q .says)
-          → _≡_ {A = Decided} (record { says = w; credit = q .account .credit; last = q .account .last }) (decided l used a n port t)
-      unfolding decided
-      decided-step m q w u v = simp (v, u, ← e, not-false r h, some-valid a c f z, eq-eqb (portCode l n port) 0 (sym p ∙ m))
+      module _ (x : ℕ) (p : x ≡ portCode l n port) where
+        pub decided-port : (x ≡ 0 → ⊥) → (d : Decided) → d ≡ kept x a → d ≡ decided l used a n port t
+        unfolding decided
+        decided-port k d q = q ∙ simp (← e, not-false r h, sound, p, ne-eqb (portCode l n port) 0 (rw p at k))
+
+        pub decided-step : x ≡ 0 → (w : Told) → w ≡ withMask (l .mask) (s .says)
+            → _≡_ {A = Decided} (record { says = w; credit = s .account .credit; last = s .account .last }) (decided l used a n port t)
+        unfolding decided
+        decided-step k w v = simp (v, u, ← e, not-false r h, sound, eq-eqb (portCode l n port) 0 (sym p ∙ k))
 
 -- of an unsound link or an invalid account
 pub decided-unsound : (l : Link) (used : ℕ) (a : Account) (n port t : ℕ) → (linkSound l used (a .terms .smax) && valid a) ≡ false → decided l used a n port t ≡ kept 10 a
@@ -112,6 +141,16 @@ module _ (g : Config) (s : State) (f : Call) where
   pub call-row : frameCode (g .constant) (f .octets) ≡ 0 → called g s f ≡ onRow g s f (found (g .links) (g .linkCount) (linkNumber (f .octets)))
   unfolding called
   call-row z = ap (settled g s f) (sym (route-row (f .octets) (g .constant) (g .links) (g .linkCount) _ refl z _ refl _ refl))
+
+-- a frame that has a link has a frame's size
+pub link-sized : (f : List ℕ) (constant : ℕ) (links : List ℕ) (count : ℕ) (r : Route) → r ≡ routed f constant links count
+    → (l : Link) → r ≡ Over l → lengthCode (length f) ≡ 0
+link-sized f constant links count r q l h =
+    split (eqb (frameCode constant f) 0)
+    (λ z. frame-zero constant f (eqb-true _ _ z))
+    (λ z.
+    let k : Stopped (frameCode constant f) ≡ Over l = route-stopped f constant links count _ refl (eqb-false _ _ z) ∙ sym q ∙ h in
+    let y : _≡_ {A = ℕ} 0 1 = cc in absurd (omega arith))
 
 -- ---- the call, by its route
 module _ (g : Config) (s : State) (f : Call) (r : Route) (q : r ≡ routed (f .octets) (g .constant) (g .links) (g .linkCount)) where

@@ -3,14 +3,16 @@ ghost use mathlib.Core.Path.{_≡_};
 ghost use Prim.Native.Nat.{_+_, _*_, _≤_};
 ghost use lib.ListN.{length, getD};
 ghost use Rattle.account.specs.Step.{told as stepTold};
-ghost use Rattle.tables.specs.Rows.{accountOctets, configOf};
-ghost use Rattle.switch.specs.Verdict.{told, withMask};
+ghost use Rattle.frame.specs.Frame.{lengthCode};
+ghost use Rattle.tables.specs.Rows.{accountOctets, configFor};
+ghost use Rattle.switch.specs.Verdict.{told, withMask, refusalOf};
 ghost use Rattle.switch.specs.Call.{inUse, accountHeld, decisionOf, kept, decided, stateOf, callOf, afterOf, called};
 use account::Account;
 use account::Outcome;
 use account::UNSOUND;
 use filter::Route;
 use tables::Link;
+use tables::Settings;
 
 // The answer of a frame call: forwarded with the output ports and the credit left, short or late with the credit held,
 // or refused with its code.
@@ -19,6 +21,12 @@ pub enum Verdict {
     Short(u32),
     Late(u32),
     Refused(u8),
+}
+
+// How a frame came in: the port, and the time in microseconds.
+pub struct Ingress {
+    pub port: u32,
+    pub time: u64,
 }
 
 // A verdict, with the credit and the last time that the account then has.
@@ -40,6 +48,18 @@ fn verdict_of(outcome: Outcome, mask: u32) -> Verdict
     }
 }
 
+// The code of a step that refuses what it is given; 0 of any other.
+fn refusal(outcome: Outcome) -> u8
+    ensures { λ r. ⌜ r ≡ refusalOf (stepTold outcome) ⌝ }
+{
+    match outcome {
+        Outcome::Refused(code) => code,
+        Outcome::Forwarded(credit) => 0,
+        Outcome::Short(credit) => 0,
+        Outcome::Late(credit) => 0,
+    }
+}
+
 // A refusal that leaves the account as it is.
 fn refused(code: u8, account: Account) -> Decision
     ensures { λ r. ⌜ decisionOf r ≡ kept code account ⌝ }
@@ -52,29 +72,24 @@ fn refused(code: u8, account: Account) -> Decision
 }
 
 // What is decided of a frame for its link and account, `used` accounts being in use: 10, then 5, 6 and 7, then the
-// policing step.
-fn decide(
-    link: Link,
-    used: usize,
-    account: Account,
-    octets: usize,
-    port: u32,
-    time: u64,
-) -> Decision
-    ensures { λ r. ⌜ decisionOf r ≡ decided link used account octets port time ⌝ }
+// policing step. The step is asked once, before the port: of a frame's size it refuses only as 10.
+fn decide(link: Link, used: usize, account: Account, octets: usize, ingress: Ingress) -> Decision
+    requires { ⌜ lengthCode octets ≡ 0 ⌝ }
+    ensures { λ r. ⌜ decisionOf r ≡ decided link used account octets (ingress .port) (ingress .time) ⌝ }
 {
     if !link.sound(used, account.terms.smax) {
         return refused(UNSOUND, account);
     }
-    if account.capacity() == 0 {
-        return refused(UNSOUND, account);
+    let step = account.police(octets, ingress.time);
+    let outcome = step.outcome;
+    let unsound = refusal(outcome);
+    if unsound != 0 {
+        return refused(unsound, account);
     }
-    let code = filter::port_code(link, octets, port);
+    let code = filter::port_code(link, octets, ingress.port);
     if code != 0 {
         return refused(code, account);
     }
-    let step = account.police(octets, time);
-    let outcome = step.outcome;
     let next = step.account;
     Decision {
         verdict: verdict_of(outcome, link.mask),
@@ -121,28 +136,30 @@ fn account_held(accounts: &[u8], credits: &[u32], lasts: &[u64], a: u16) -> Acco
     }
 }
 
-// A frame on a port at a time: its verdict, with the credit and the last time of its account stored. Any tables, counts
-// and octets get an answer; no row beyond the counts is looked at.
+// A frame as it came in: its verdict, with the credit and the last time of its account stored. Any tables, settings and
+// octets get an answer; no row beyond the counts is looked at.
 pub fn frame_call(
     frame: &[u8],
-    port: u32,
-    time: u64,
-    constant: u32,
+    ingress: Ingress,
+    settings: Settings,
     accounts: &[u8],
     credits: &mut [u32],
     lasts: &mut [u64],
     links: &[u8],
-    account_count: usize,
-    link_count: usize,
 ) -> Verdict
     ensures { λ r. ⌜ afterOf (told r) (stateOf (now (credits .exit)) (now (lasts .exit)))
         ≡ called
-        (configOf constant (now (accounts .entry)) «account_count» (now (links .entry)) «link_count»)
+        (configFor settings (now (accounts .entry)) (now (links .entry)))
         (stateOf (now (credits .entry)) (now (lasts .entry)))
-        (callOf (now (frame .entry)) port time) ⌝ }
+        (callOf (now (frame .entry)) (ingress .port) (ingress .time)) ⌝ }
 {
-    let used = in_use(account_count, accounts.len(), credits.len(), lasts.len());
-    match filter::find_link(frame, constant, links, link_count) {
+    let used = in_use(
+        settings.accounts,
+        accounts.len(),
+        credits.len(),
+        lasts.len(),
+    );
+    match filter::find_link(frame, settings.constant, links, settings.links) {
         Route::Stopped(code) => Verdict::Refused(code),
         Route::Over(link) => {
             let a = link.account as usize;
@@ -150,7 +167,7 @@ pub fn frame_call(
                 return Verdict::Refused(UNSOUND);
             }
             let account = account_held(accounts, credits, lasts, link.account);
-            let out = decide(link, used, account, frame.len(), port, time);
+            let out = decide(link, used, account, frame.len(), ingress);
             credits[a] = out.credit;
             lasts[a] = out.last;
             out.verdict

@@ -9,6 +9,7 @@ use Rattle.rows.specs.declared.Found.{Found}
 use Rattle.rows.specs.declared.Found.the-variants.{At, Nowhere}
 use Rattle.terms.specs.declared.Terms.{Terms}
 use Rattle.tables.specs.declared.Link.{Link}
+use Rattle.tables.specs.declared.Settings.{Settings}
 use Rattle.tables.specs.declared.Sought.{Sought}
 use Rattle.tables.specs.declared.Sought.the-variants.{Present, Absent}
 
@@ -71,3 +72,11 @@ pub record Config : Type 0 where
 
 abbrev pub configOf : ℕ → List ℕ → ℕ → List ℕ → ℕ → Config
 configOf c accounts n links m = record { constant = c; accounts = accounts; accountCount = n; links = links; linkCount = m }
+
+-- the constant field and the counts as loading answers them
+abbrev pub settingsOf : ℕ → ℕ → ℕ → Settings
+settingsOf c n m = record { constant = c; accounts = n; links = m }
+
+-- what a frame call is lent ("Accounts and links"): these, with the tables that were filled
+abbrev pub configFor : Settings → List ℕ → List ℕ → Config
+configFor q accounts links = configOf (q .constant) accounts (q .accounts) links (q .links)

@@ -29,6 +29,14 @@ pub struct Link {
     pub account: u16,
 }
 
+// The settings of a switch, which loading an image answers and a frame call takes: the constant field, and how many
+// accounts and links the image named.
+pub struct Settings {
+    pub constant: u32,
+    pub accounts: usize,
+    pub links: usize,
+}
+
 // The link of a number, if there is one.
 pub enum Sought {
     Present(Link),

@@ -15,7 +15,7 @@ use Rattle.octets.proofs.Parts.{length-part, getD-part, part-is, part-none, par
 use Rattle.terms.specs.Terms.{capacity}
 use Rattle.terms.specs.declared.Terms.{Terms}
 use Rattle.rows.specs.Rows.{rowOctets}
-use Rattle.tables.specs.Rows.{Config, accountOctets, linkOctets, accountTable, linkTable, accountIn, linkIn, configOf}
+use Rattle.tables.specs.Rows.{Config, accountOctets, linkOctets, accountTable, linkTable, accountIn, linkIn, configOf, settingsOf}
 use Rattle.tables.specs.Rules.{accountGood, linkGood}
 use Rattle.lists.proofs.Leading.{leading-before, leading-is}
 use Rattle.tables.proofs.Rows.{terms-part, link-part}
@@ -42,7 +42,7 @@ use Rattle.image_octets.proofs.Laying.{rowField, length-head, length-image}
 
 -- ---- small things that both trips use
 abbrev accepting : ℕ → ℕ → ℕ → ℕ → Loaded
-accepting l c n m = record { code = 0; offset = l; constant = c; accounts = n; links = m }
+accepting l c n m = record { code = 0; offset = l; settings = settingsOf c n m }
 
 account-inside : (i n m : ℕ) (s : List ℕ) → i < n → length s ≡ imageLength n m → fieldPlace i 0 + accountSize ≤ length s
 unfolding fieldPlace
@@ -59,17 +59,17 @@ counts-by accounts n links m a b c d e f = simp (le-leb _ _ a, le-leb _ _ b, le-
 
 -- the octets of fresh rows are the image's
 module _ (s : List ℕ) (r : Runs) (f : Fresh s r) where
-  account-octets : (i : ℕ) → i < readImage s .accounts → rowOctets accountOctets (accountTable (r .accounts)) i ≡ rowOctets accountOctets (accountFields s) i
+  account-octets : (i : ℕ) → i < readImage s .settings .accounts → rowOctets accountOctets (accountTable (r .accounts)) i ≡ rowOctets accountOctets (accountFields s) i
   unfolding accountRows
   account-octets i l =
       ap (octetsAt accountOctets (r .accounts)) (zero-add (accountOctets * i))
-      ∙ rows-at (rowOctets accountOctets (accountFields s)) accountOctets (λ k. length-part accountOctets s _) (readImage s .accounts) (r .accounts) (f .accounts) i l
+      ∙ rows-at (rowOctets accountOctets (accountFields s)) accountOctets (λ k. length-part accountOctets s _) (readImage s .settings .accounts) (r .accounts) (f .accounts) i l
 
-  link-octets : (j : ℕ) → j < readImage s .links → rowOctets linkOctets (linkTable (r .links)) j ≡ rowOctets linkOctets (linkFields s (readImage s .accounts)) j
+  link-octets : (j : ℕ) → j < readImage s .settings .links → rowOctets linkOctets (linkTable (r .links)) j ≡ rowOctets linkOctets (linkFields s (readImage s .settings .accounts)) j
   unfolding linkRows
   link-octets j l =
       ap (octetsAt linkOctets (r .links)) (zero-add (linkOctets * j))
-      ∙ rows-at (rowOctets linkOctets (linkFields s (readImage s .accounts))) linkOctets (λ k. length-part linkOctets s _) (readImage s .links) (r .links) (f .links) j l
+      ∙ rows-at (rowOctets linkOctets (linkFields s (readImage s .settings .accounts))) linkOctets (λ k. length-part linkOctets s _) (readImage s .settings .links) (r .links) (f .links) j l
 
 -- ---- tables that the writer accepts
 pub record Accepts (g : Config) (room : ℕ) : Type 0 where
@@ -247,7 +247,7 @@ module _ (g : Config) (room : ℕ) (a : Accepts g room) (c32 : g .constant < 2 ^
       let l = length-is in
       end-passes s n m (some-n .0) (some-m .0) end-is (length-read s (fieldPlace n m) 0 endTag [] refl (image-end g) (omega arith)) (omega arith)
 
-  pub image-reads : readImage s ≡ record { code = 0; offset = length s; constant = g .constant; accounts = n; links = m }
+  pub image-reads : readImage s ≡ record { code = 0; offset = length s; settings = settingsOf (g .constant) n m }
   image-reads =
       reads-as s n m (some-n .1) (some-m .0) (some-m .1) head-ok account-ok link-ok (link-tag 0 (some-m .0)) end-is end-ok length-is
       ∙ ap (λ (c : ℕ). accepting (length s) c n m) constant-back
@@ -302,68 +302,68 @@ module _ (s : List ℕ) (o : (i : ℕ) → getD s i 0 < 256) (z : readImage s .c
   q = readImage s
 
   abbrev g : Config
-  g = configOf (q .constant) (r .accounts) (q .accounts) (r .links) (q .links)
+  g = configOf (q .settings .constant) (r .accounts) (q .settings .accounts) (r .links) (q .settings .links)
 
   ok : Accepted s q
   ok = accepted s z
 
-  rows : HoldsImage s r (q .accounts) (q .links)
+  rows : HoldsImage s r (q .settings .accounts) (q .settings .links)
   rows = fresh-holds s r f
 
-  account-well : (i : ℕ) → i < q .accounts → goodField s accountTag i 0 ≡ true
+  account-well : (i : ℕ) → i < q .settings .accounts → goodField s accountTag i 0 ≡ true
   account-well i l = let e = ok .accounts-are in counted-account s i (omega arith)
 
-  link-well : (j : ℕ) → j < q .links → goodField s linkTag (q .accounts) j ≡ true
-  link-well j l = let e = ok .links-are in counted-link s (q .accounts) j (omega arith)
+  link-well : (j : ℕ) → j < q .settings .links → goodField s linkTag (q .settings .accounts) j ≡ true
+  link-well j l = let e = ok .links-are in counted-link s (q .settings .accounts) j (omega arith)
 
   -- the writer accepts them
   pub read-accepts : (room : ℕ) → length s ≤ room → Accepts g room
   read-accepts room h =
       let l = ok .length-is in
-      let b = held-long (q .accounts) (q .links) _ _ _ _ (rows .long) in
+      let b = held-long (q .settings .accounts) (q .settings .links) _ _ _ _ (rows .long) in
       let few = few-read s in
       record {
-        counts = counts-by (r .accounts) (q .accounts) (r .links) (q .links)
-            (some-accounts s (q .accounts) (q .links) (ok .accounts-are) (ok .links-are) (ok .end-code)) (few .0) (b .accounts-long)
-            (some-links s (q .accounts) (q .links) (ok .accounts-are) (ok .links-are) (ok .end-code)) (few .1) (b .links-long);
+        counts = counts-by (r .accounts) (q .settings .accounts) (r .links) (q .settings .links)
+            (some-accounts s (q .settings .accounts) (q .settings .links) (ok .accounts-are) (ok .links-are) (ok .end-code)) (few .0) (b .accounts-long)
+            (some-links s (q .settings .accounts) (q .settings .links) (ok .accounts-are) (ok .links-are) (ok .end-code)) (few .1) (b .links-long);
         constant = ap constantGood (ok .constant-is) ∙ head-good-constant s (head-passes s (ok .head-code) .sound);
         accounts = λ i k. account-good-same (accountTable (r .accounts)) (accountFields s) i i (rows .accounts i k) ∙ good-account s i (account-well i k);
         links = λ j k.
-            link-good-same (accountTable (r .accounts)) (accountFields s) (linkTable (r .links)) (linkFields s (q .accounts)) (q .accounts) j (rows .accounts) (rows .links j k) (rows .links (j - 1) (omega arith))
-            ∙ good-link s (q .accounts) j (link-well j k);
+            link-good-same (accountTable (r .accounts)) (accountFields s) (linkTable (r .links)) (linkFields s (q .settings .accounts)) (q .settings .accounts) j (rows .accounts) (rows .links j k) (rows .links (j - 1) (omega arith))
+            ∙ good-link s (q .settings .accounts) j (link-well j k);
         fits = omega arith;
       }
 
   -- and their image is the one that was read
-  spelled-head : octetsAt headSize s 0 ≡ fieldOf headTag (edition ∷ octetsOf 4 (q .constant))
+  spelled-head : octetsAt headSize s 0 ≡ fieldOf headTag (edition ∷ octetsOf 4 (q .settings .constant))
   spelled-head =
       let p = head-passes s (ok .head-code) in
       let one : octetsAt 1 s 3 ≡ edition ∷ [] =
       part-is 1 s 3 (edition ∷ []) refl (λ k l. let y : 3 + k ≡ 3 = omega arith in let x : k ≡ 0 = omega arith in rw (y, x) (head-good-edition s (p .sound))) in
-      let four : octetsAt 4 s (3 + 1) ≡ octetsOf 4 (q .constant) = sym (octets-number 4 s 4 o) ∙ ap (octetsOf 4) (sym (ok .constant-is)) in
+      let four : octetsAt 4 s (3 + 1) ≡ octetsOf 4 (q .settings .constant) = sym (octets-number 4 s 4 o) ∙ ap (octetsOf 4) (sym (ok .constant-is)) in
       field-spelled s 0 headOctets headTag o (eqb-true _ _ (p .ordered)) (p .sized)
       ∙ ap (fieldOf headTag) (part-join 1 4 s 3 ∙ ap₂ _++_ one four)
 
-  spelled-account : (i : ℕ) → i < q .accounts → octetsAt accountSize s (fieldPlace i 0) ≡ rowField accountTag accountOctets (r .accounts) i
+  spelled-account : (i : ℕ) → i < q .settings .accounts → octetsAt accountSize s (fieldPlace i 0) ≡ rowField accountTag accountOctets (r .accounts) i
   spelled-account i l =
       let w = account-well i l in
       let t : tagAt s i 0 ≡ accountTag = good-tag s accountTag i 0 w in
       field-spelled s (fieldPlace i 0) accountOctets accountTag o t (next-passes s i 0 (good-code s accountTag i 0 w) .sized ∙ sym (octets-account (tagAt s i 0) t))
       ∙ ap (fieldOf accountTag) (ap (octetsAt accountOctets s) (account-place i) ∙ sym (account-octets s r f i l))
 
-  spelled-link : (j : ℕ) → j < q .links → octetsAt linkSize s (fieldPlace (q .accounts) j) ≡ rowField linkTag linkOctets (r .links) j
+  spelled-link : (j : ℕ) → j < q .settings .links → octetsAt linkSize s (fieldPlace (q .settings .accounts) j) ≡ rowField linkTag linkOctets (r .links) j
   spelled-link j l =
       let w = link-well j l in
-      let t : tagAt s (q .accounts) j ≡ linkTag = good-tag s linkTag (q .accounts) j w in
-      field-spelled s (fieldPlace (q .accounts) j) linkOctets linkTag o t
-      (next-passes s (q .accounts) j (good-code s linkTag (q .accounts) j w) .sized ∙ sym (octets-link (tagAt s (q .accounts) j) (λ y. omega arith) t))
-      ∙ ap (fieldOf linkTag) (ap (octetsAt linkOctets s) (link-place (q .accounts) j) ∙ sym (link-octets s r f j l))
+      let t : tagAt s (q .settings .accounts) j ≡ linkTag = good-tag s linkTag (q .settings .accounts) j w in
+      field-spelled s (fieldPlace (q .settings .accounts) j) linkOctets linkTag o t
+      (next-passes s (q .settings .accounts) j (good-code s linkTag (q .settings .accounts) j w) .sized ∙ sym (octets-link (tagAt s (q .settings .accounts) j) (λ y. omega arith) t))
+      ∙ ap (fieldOf linkTag) (ap (octetsAt linkOctets s) (link-place (q .settings .accounts) j) ∙ sym (link-octets s r f j l))
 
-  spelled-end : octetsAt tagAndLength s (fieldPlace (q .accounts) (q .links)) ≡ fieldOf endTag []
+  spelled-end : octetsAt tagAndLength s (fieldPlace (q .settings .accounts) (q .settings .links)) ≡ fieldOf endTag []
   spelled-end =
-      let t : tagAt s (q .accounts) (q .links) ≡ endTag = end-tag s (q .accounts) (q .links) (ok .accounts-are) (ok .links-are) (ok .end-code) in
-      field-spelled s (fieldPlace (q .accounts) (q .links)) 0 endTag o t
-      (next-passes s (q .accounts) (q .links) (ok .end-code) .sized ∙ sym (octets-end (tagAt s (q .accounts) (q .links)) (λ y. omega arith) (λ y. omega arith)))
+      let t : tagAt s (q .settings .accounts) (q .settings .links) ≡ endTag = end-tag s (q .settings .accounts) (q .settings .links) (ok .accounts-are) (ok .links-are) (ok .end-code) in
+      field-spelled s (fieldPlace (q .settings .accounts) (q .settings .links)) 0 endTag o t
+      (next-passes s (q .settings .accounts) (q .settings .links) (ok .end-code) .sized ∙ sym (octets-end (tagAt s (q .settings .accounts) (q .settings .links)) (λ y. omega arith) (λ y. omega arith)))
       ∙ ap (fieldOf endTag) (part-none s _)
 
   pub image-again : imageOf g ≡ s
@@ -371,7 +371,7 @@ module _ (s : List ℕ) (o : (i : ℕ) → getD s i 0 < 256) (z : readImage s .c
 
 -- tables that hold what loading writes, and nothing beyond
 just : (s : List ℕ) → readImage s .code ≡ 0
-    → Fresh s (runsOf (accountRows s (readImage s .accounts)) (capacities (accountFields s) (readImage s .accounts)) (replicate (readImage s .accounts) 0) (linkRows s (readImage s .accounts) (readImage s .links)))
+    → Fresh s (runsOf (accountRows s (readImage s .settings .accounts)) (capacities (accountFields s) (readImage s .settings .accounts)) (replicate (readImage s .settings .accounts) 0) (linkRows s (readImage s .settings .accounts) (readImage s .settings .links)))
 just s z = record { accepted = z; accounts = take-length _; credits = take-length _; lasts = take-length _; links = take-length _ }
 
 pub accepted-is-image : AcceptedIsImage
@@ -386,7 +386,7 @@ read-write s r d o z h =
     let f : Fresh s (loading s r .runs) = load-fresh s r z .1 in
     let l = accepted s y .length-is in
     let same : loadedTables s r ≡ g s o y (loading s r .runs) f =
-    ap (λ (x : Loaded). configOf (x .constant) (loading s r .runs .accounts) (x .accounts) (loading s r .runs .links) (x .links)) e in
+    ap (λ (x : Loaded). configOf (x .settings .constant) (loading s r .runs .accounts) (x .settings .accounts) (loading s r .runs .links) (x .settings .links)) e in
     ap (λ (x : Config). writing x d) same
     ∙ writes (g s o y (loading s r .runs) f) d (read-accepts s o y (loading s r .runs) f (length d) h)
     ∙ ap₂ (λ (n : ℕ) (x : List ℕ). writingOf (writtenOf 0 n) (put d 0 x)) (sym l) (image-again s o y (loading s r .runs) f)

@@ -6,9 +6,9 @@ use mathlib.Core.List.{List}
 use mathlib.Core.Path.{_≡_}
 use lib.ListN.{length, getD, take, replicate}
 use Rattle.octets.specs.Runs.{put}
-use Rattle.tables.specs.Rows.{Config, accountOctets, linkOctets, accountTable}
+use Rattle.tables.specs.Rows.{Config, accountOctets, linkOctets, accountTable, configFor, settingsOf}
 use Rattle.layout.specs.Layout.{imageOf}
-use Rattle.image.specs.Read.{readImage, configFor}
+use Rattle.image.specs.Read.{readImage}
 use Rattle.loader.specs.Loading.{Runs, runsOf, Loading, loadingOf, accountRows, linkRows, capacities, longEnough, loading}
 use Rattle.image_writer.specs.Writing.{countsGood, valueAnswer, writtenOf, writingOf, writing}
 
@@ -16,7 +16,7 @@ use Rattle.image_writer.specs.Writing.{countsGood, valueAnswer, writtenOf, writ
 
 -- the tables that accepted octets name
 abbrev pub tablesIn : List ℕ → Config
-tablesIn s = configFor (readImage s) (accountRows s (readImage s .accounts)) (linkRows s (readImage s .accounts) (readImage s .links))
+tablesIn s = configFor (readImage s .settings) (accountRows s (readImage s .settings .accounts)) (linkRows s (readImage s .settings .accounts) (readImage s .settings .links))
 
 -- good tables are those with neither a bad count nor a bad value
 abbrev pub AcceptedIsImage : Type 0
@@ -30,7 +30,7 @@ abbrev pub ImageIsAccepted : Type 0
 ImageIsAccepted =
     (g : Config) → g .constant < 2 ^ 32 → countsGood (g .accounts) (g .accountCount) (g .links) (g .linkCount) ≡ true → valueAnswer g .code ≡ 0
     → readImage (imageOf g)
-    ≡ record { code = 0; offset = length (imageOf g); constant = g .constant; accounts = g .accountCount; links = g .linkCount }
+    ≡ record { code = 0; offset = length (imageOf g); settings = settingsOf (g .constant) (g .accountCount) (g .linkCount) }
 
 -- ---- write, then read
 
@@ -42,7 +42,7 @@ writtenImage g d = take (writing g d .answer .offset) (writing g d .room)
 unfoldable pub readBack : Config → Runs → Loading
 readBack g r =
     loadingOf
-    (record { code = 0; offset = length (imageOf g); constant = g .constant; accounts = g .accountCount; links = g .linkCount })
+    (record { code = 0; offset = length (imageOf g); settings = settingsOf (g .constant) (g .accountCount) (g .linkCount) })
     (runsOf
     (put (r .accounts) 0 (take (accountOctets * g .accountCount) (g .accounts)))
     (put (r .credits) 0 (capacities (accountTable (g .accounts)) (g .accountCount)))
@@ -61,7 +61,7 @@ WriteRead =
 
 -- the tables that loading left, with its answer
 abbrev pub loadedTables : List ℕ → Runs → Config
-loadedTables s r = configFor (loading s r .answer) (loading s r .runs .accounts) (loading s r .runs .links)
+loadedTables s r = configFor (loading s r .answer .settings) (loading s r .runs .accounts) (loading s r .runs .links)
 
 -- for any octets that load, into any runs, and any room that is long enough: the same octets, and the room beyond them as it was
 abbrev pub ReadWrite : Type 0

@@ -1,6 +1,5 @@
 -- `frame_call`: by its route; the account is in use where its credit and last time are stored. Assumes nothing.
-use native.Mathlib.Omega.{arith}
-use Rattle.switch.proofs.Call.{used-credit, used-last, used-row, call-stopped, call-unused, call-stored}
+use Rattle.switch.proofs.Call.{used-credit, used-last, used-row, call-stopped, call-unused, link-sized, call-stored}
 use borrow.Author.Needs.{needs}
 use Rattle.switch.proofs.frame_call.Statement.{statement}
 use Rattle.switch.proofs.frame_call.Tie as tie
@@ -21,22 +20,22 @@ cast-a : tie.Need-cast-a
 cast-a c = search needs
 
 returns : tie.Need-returns
-returns c = search call-unused
+returns c = call-unused _ _ _ _ (c .before .before .before .before .before .find-link .ensures) _ (c .before .before .before .link .given .1) _ (c .before .before .before .before .before .before .in-use .ensures) (c .if1 .taken)
 
 account-held-requires : tie.Need-account-held-requires
-account-held-requires c κs = search used-row
+account-held-requires c κs = used-row _ _ _ _ _ _ (c .before .before .before .before .before .before .before .before .in-use .ensures) (c .before .before .if1 .left)
 
 decide-requires : tie.Need-decide-requires
-decide-requires c κs = search needs
+decide-requires c κs = search link-sized
 
 mul-credits : tie.Need-mul-credits
-mul-credits c = omega (arith, c .before .before .before .before .before .struct-known .given)
+mul-credits c = search needs
 
 slice-write-credits : tie.Need-slice-write-credits
 slice-write-credits c = search used-credit
 
 mul-lasts : tie.Need-mul-lasts
-mul-lasts c = omega (arith, c .before .before .before .before .before .struct-known .given)
+mul-lasts c = search needs
 
 slice-write-lasts : tie.Need-slice-write-lasts
 slice-write-lasts c = search used-last

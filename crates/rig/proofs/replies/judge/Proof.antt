@@ -4,6 +4,9 @@ use borrow.Author.Needs.{needs}
 use Rattle.rig.proofs.replies.judge.Statement.{statement}
 use Rattle.rig.proofs.replies.judge.Tie as tie
 
+cast-t10 : tie.Need-cast-t10
+cast-t10 c = search needs
+
 sub-frame-call : tie.Need-sub-frame-call
 sub-frame-call c = search needs
 
@@ -12,9 +15,6 @@ part-frame-call-start c = search needs
 
 part-frame-call-end : tie.Need-part-frame-call-end
 part-frame-call-end c = search needs
-
-cast-frame-call : tie.Need-cast-frame-call
-cast-frame-call c = search needs
 
 frame-call-requires : tie.Need-frame-call-requires
 frame-call-requires c κs = search needs
@@ -34,10 +34,10 @@ pub judge-spec : {M : Type 1} → statement M
 judge-spec =
     tie.close
     (tie.spec
+    cast-t10
     sub-frame-call
     part-frame-call-start
     part-frame-call-end
-    cast-frame-call
     frame-call-requires
     same-length
     same-length-2
