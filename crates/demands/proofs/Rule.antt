@@ -39,7 +39,7 @@ use Rattle.switch.specs.declared.Verdict.the-variants.{Refused}
 use Rattle.filter.proofs.Filter.{frame-zero}
 use Rattle.switch.proofs.Call.{held-again, decided-refused, decided-policed}
 use Rattle.demands.specs.History.{callsOn, answers, final, configIn, stateIn}
-use Rattle.demands.specs.Rule.{imageTerms, imageLink, linkRow, filterCode, passing, arrivalOf, reachedIn, ruleCode, ruleOfCalls}
+use Rattle.demands.specs.Rule.{imageTerms, imageLink, linkRow, filterCode, passing, reachedIn, ruleCode, ruleOfCalls}
 use Rattle.demands.specs.Demand3.{RuleOfFreshTables}
 use Rattle.demands.proofs.Tables.{Tables, tables, long, starts-loaded}
 use Rattle.demands.proofs.Filter.{frame-code, filter-frame, filter-unknown, filter-link, by-filter, passes-none, passes-link, call-frame, call-nowhere, call-link}
@@ -58,7 +58,8 @@ module _ (s : List ℕ) (f : Call) (a : ℕ) where
 
   reached-more : (past : List Call) → passing s a f ≡ true → lengthCode (length (f .octets)) ≡ 0
       → reachedIn s (f ∷ past) a ≡ ruleArrived (imageTerms s a) (reachedIn s past a) (length (f .octets)) (f .time) .past
-  reached-more past e z = reached-next past ∙ simp (e, step-arrived (imageTerms s a) (reachedIn s past a) (length (f .octets)) (f .time) z)
+  reached-more past e z =
+      reached-next past ∙ simp (e, step-arrived (imageTerms s a) (reachedIn s past a) (length (f .octets)) (f .time) z)
 
 -- ---- the answer to a frame after a past, with its data
 abbrev pub account-of : List ℕ → List Call → ℕ → Account
@@ -69,7 +70,8 @@ link-verdict s past f Nowhere = told (Refused (filterCode s f))
 link-verdict s past f (At j) = withMask (imageLink s j .mask) (policed (account-of s past (imageLink s j .account)) (length (f .octets)) (f .time) .says)
 
 unfoldable pub verdict-for : List ℕ → List Call → Call → Told
-verdict-for s past f = if not (eqb (filterCode s f) 0) then told (Refused (filterCode s f)) else link-verdict s past f (linkRow s f)
+verdict-for s past f =
+    if not (eqb (filterCode s f) 0) then told (Refused (filterCode s f)) else link-verdict s past f (linkRow s f)
 
 -- ---- each account is the one that the frames which reached it leave
 pub record Stands (s : List ℕ) (g : Config) (past : List Call) (q : State) : Type 0 where
@@ -245,7 +247,8 @@ module _ (s : List ℕ) (g : Config) (t : Tables s g) (past : List Call) (q : St
   one-call =
       by-filter s f
       (λ m. subst (Ruled s g past f) (sym (call-frame s g t q f m)) (refused-by (frame-code s f) (filter-frame s f m) m))
-      (λ z e. subst (Ruled s g past f) (sym (call-nowhere s g t q f z e)) (refused-by 4 (filter-unknown s f z e) (λ d. omega arith)))
+      (λ z e.
+      subst (Ruled s g past f) (sym (call-nowhere s g t q f z e)) (refused-by 4 (filter-unknown s f z e) (λ d. omega arith)))
       (λ z j e h. subst (Ruled s g past f) (sym (call-link s g t q f z j e h)) (over j h z e))
 
 -- ---- from tables just loaded
