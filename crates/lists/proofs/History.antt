@@ -53,7 +53,7 @@ pub record Simulates {S T C A B : Type 0} (m : Machine S C A) (n : Machine T C B
       → (tells (m .says s c) ≡ n .says t c) × R (n .leaves t c) (m .leaves s c)
 
 module _ {S T C A B : Type 0} {m : Machine S C A} {n : Machine T C B} {tells : A → B} {R : T → S → Type 0} where
-  -- so it is of the list
+  -- then the whole list is answered so
   pub simulated : (h : List C) → Simulates m n tells R h → (t : T) (s : S) → R t s
       → (map tells (answers m s h) ≡ answers n t h) × R (final n t h) (final m s h)
   unfolding answers final
