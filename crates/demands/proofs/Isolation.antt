@@ -1,20 +1,16 @@
 -- Demand 3's second half: what a frame meant for an account is answered, and what the account then holds, go by the image and by the
 -- frames meant for it. Assumes nothing.
 use Prim.Native.Nat.{ℕ, _<_}
-use mathlib.Core.Bool.{true, not, false≢true}
-use mathlib.Core.List.{List, [], _∷_, map}
-use mathlib.Core.Path.{_≡_, sym, ap, _∙_, subst}
+use mathlib.Core.Bool.{Bool, true, not, _&&_, false≢true}
+use mathlib.Core.List.{List, [], _∷_}
+use mathlib.Core.Path.{_≡_, refl, sym, ap, _∙_, subst}
 use lib.ListN.{length, getD}
 use lib.Dec.{leb, eqb}
 use borrow.Author.Tests.{eqb-true}
 use Rattle.lists.specs.Choice.{if_then_else_}
-use Rattle.lists.specs.History.{leftBy}
-use Rattle.lists.specs.Lists.{only}
 use Rattle.lists.proofs.History.{SimulatesPicked, alike}
-use Rattle.lists.proofs.Lists.{only-none, only-take, only-drop, only-only}
 use Rattle.lists.proofs.Tests.{both}
 use Rattle.account.specs.Step.{policed}
-use Rattle.rule.specs.Rule.{ruleOfAccount}
 use Rattle.account.specs.declared.Account.{Account}
 use Rattle.rule.proofs.Rule.{state}
 use Rattle.tables.specs.Rows.{Config}
@@ -27,21 +23,14 @@ use Rattle.switch.specs.Verdict.{Told, told, withMask}
 use Rattle.switch.specs.declared.Verdict.the-variants.{Refused}
 use Rattle.switch.specs.Call.{State, Call, accountHeld}
 use Rattle.demands.specs.History.{callsOn, final, configIn, stateIn}
-use Rattle.demands.specs.Rule.{imageTerms, imageLink, linkRow, filterCode, names, destinationOctets, meant, passing, arrivalOf, reachedIn}
+use Rattle.demands.specs.Rule.{imageTerms, imageLink, linkRow, filterCode, names, destinationOctets, meant, reachedIn}
 use Rattle.demands.specs.Demand3.{Isolation, IsolationOfFreshTables}
 use Rattle.demands.proofs.Tables.{Tables, tables}
-use Rattle.demands.proofs.Rule.{link-verdict, verdict-for, account-of, Stands, one-call, starts, verdictsBy}
+use Rattle.demands.proofs.Rule.{with-call, reached-next, reached-same, link-verdict, verdict-for, account-of, Stands, one-call, starts, verdictsBy}
 use Rattle.demands.proofs.Words.{loaded-fresh, loaded-config}
 
 module _ (s : List ℕ) (a : ℕ) where
-  -- the frames meant for the account settle those that reached it
-  pub reached-meant : (h : List Call) → reachedIn s (only (meant s a) h) a ≡ reachedIn s h a
-  unfolding reachedIn
-  reached-meant h =
-      ap (λ (c : List Call). leftBy (ruleOfAccount (imageTerms s a)) [] (map arrivalOf c))
-      (only-only (passing s a) (meant s a) (λ f e. both (meant s a f) (eqb (filterCode s f) 0) e .0) h)
-
-  -- and the answer to one more that is meant for it
+  -- the answer to a frame meant for the account goes by the frames that reached it
   abbrev verdict-by : ℕ → Call → Account → Told
   verdict-by j f x = withMask (imageLink s j .mask) (policed x (length (f .octets)) (f .time) .says)
 
@@ -60,32 +49,29 @@ module _ (s : List ℕ) (a : ℕ) where
       ap (λ (w : Told). if not (eqb (filterCode s f) 0) then told (Refused (filterCode s f)) else w)
       (row-names before after f e (linkRow s f) (both (leb destinationOctets (length (f .octets))) (names s a (linkRow s f)) m .1))
 
-  -- ---- tables after a past, of which `mine` are the calls meant for the account
+  -- ---- tables after a past, in which the frames that reached the account are those of the calls `mine`
   abbrev Mine : Config → List Call → State → Type 0
-  Mine g mine q = (past : List Call) × (mine ≡ only (meant s a) past) × Stands s g past q
-
-  reached-mine : (mine past : List Call) → mine ≡ only (meant s a) past → reachedIn s past a ≡ reachedIn s mine a
-  reached-mine mine past e = sym (reached-meant past) ∙ ap (λ (c : List Call). reachedIn s c a) (sym e)
+  Mine g mine q = (past : List Call) × (reachedIn s past a ≡ reachedIn s mine a) × Stands s g past q
 
   mine-holds : (g : Config) (mine : List Call) (q : State) → Mine g mine q → a < readImage s .settings .accounts
       → accountHeld (g .accounts) q a ≡ account-of s mine a
-  mine-holds g mine q m b = m .2 .is a b ∙ ap (state (imageTerms s a)) (reached-mine mine (m .0) (m .1))
+  mine-holds g mine q m b = m .2 .is a b ∙ ap (state (imageTerms s a)) (m .1)
 
   -- the calls meant for the account are answered by these alone
   alone : (g : Config) → Tables s g → (h : List Call) → SimulatesPicked (callsOn g) (verdictsBy s) (meant s a) (Mine g) h
   alone g t h =
       record {
         picked = λ f _ e mine q m.
-            let o = one-call s g t (m .0) q (m .2) f in (
-              o .verdict ∙ meant-verdict (m .0) mine f (reached-mine mine (m .0) (m .1)) e,
-              (f ∷ m .0, ap (_∷_ f) (m .1) ∙ sym (only-take (meant s a) f (m .0) e), o .stands),
-            );
+            let o = one-call s g t (m .0) q (m .2) f in
+            let same = reached-next s f a (m .0) ∙ ap (with-call s f a) (m .1) ∙ sym (reached-next s f a mine) in
+            (o .verdict ∙ meant-verdict (m .0) mine f (m .1) e, (f ∷ m .0, same, o .stands));
         others = λ f _ e mine q m.
-            (f ∷ m .0, m .1 ∙ sym (only-drop (meant s a) f (m .0) e), one-call s g t (m .0) q (m .2) f .stands);
+            let same = reached-same s f a (m .0) (ap (λ (b : Bool). b && eqb (filterCode s f) 0) e) ∙ m .1 in
+            (f ∷ m .0, same, one-call s g t (m .0) q (m .2) f .stands);
       }
 
   mine-starts : (r : Runs) → Fresh s r → Mine (configIn s r) [] (stateIn r)
-  mine-starts r fresh = ([], sym (only-none (meant s a)), starts s r fresh)
+  mine-starts r fresh = ([], refl, starts s r fresh)
 
 -- what an account holds
 holds : (accounts : List ℕ) (q : State) (a : ℕ) (x : Account) → accountHeld accounts q a ≡ x → (getD (q .credits) a 0 ≡ x .credit) × (getD (q .lasts) a 0 ≡ x .last)

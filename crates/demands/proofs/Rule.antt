@@ -2,7 +2,7 @@
 -- the rule, and with data that the image and those frames settle. Assumes nothing.
 use Prim.Native.Nat.{ℕ, _+_, _≤_, _<_}
 use mathlib.Core.Bool.{true, false, not}
-use mathlib.Core.List.{List, [], _∷_, map, reverse}
+use mathlib.Core.List.{List, [], _∷_, reverse}
 use mathlib.Core.Path.{_≡_, refl, sym, ap, _∙_, subst}
 use native.Mathlib.Omega.{arith}
 use lib.ListN.{length, getD, set, length-set}
@@ -13,15 +13,14 @@ use Rattle.lists.specs.Choice.{if_then_else_}
 use Rattle.lists.specs.History
 use Rattle.lists.specs.History.{Machine, leftBy, byCalls}
 use Rattle.lists.specs.Lists.{only}
-use Rattle.lists.proofs.History.{Simulates, simulated-answers, simulated-final, same-answers, final-calls}
-use Rattle.lists.proofs.Lists.{only-take, only-drop}
+use Rattle.lists.proofs.History.{Simulates, simulated, same-answers, final-calls}
 use Rattle.lists.proofs.Tests.{split}
 use Rattle.frame.specs.Frame.{lengthCode}
 use Rattle.terms.specs.declared.Terms.{Terms}
 use Rattle.account.specs.Account.{accountOf, valid}
 use Rattle.account.specs.Step.{policed}
 use Rattle.rule.specs.Bucket.{Reached}
-use Rattle.rule.specs.Rule.{ruleArrived, ruleOfAccount}
+use Rattle.rule.specs.Rule.{ruleArrived, ruleStep}
 use Rattle.account.specs.declared.Account.{Account}
 use Rattle.rule.proofs.Rule.{Sound, state, Agree, step-arrived, state-valid, arrival, state-loaded}
 use Rattle.account.proofs.Step.{policed-keeps}
@@ -40,26 +39,27 @@ use Rattle.switch.specs.declared.Verdict.the-variants.{Refused}
 use Rattle.filter.proofs.Filter.{frame-zero}
 use Rattle.switch.proofs.Call.{held-again, decided-refused, decided-policed}
 use Rattle.demands.specs.History.{callsOn, answers, final, configIn, stateIn}
-use Rattle.demands.specs.Rule.{imageTerms, imageLink, linkRow, filterCode, passing, arrivalOf, reachedIn, ruleCode, ruleOfCalls}
+use Rattle.demands.specs.Rule.{imageTerms, imageLink, linkRow, filterCode, passing, reachedIn, ruleCode, ruleOfCalls}
 use Rattle.demands.specs.Demand3.{RuleOfFreshTables}
 use Rattle.demands.proofs.Tables.{Tables, tables, long, starts-loaded}
 use Rattle.demands.proofs.Filter.{frame-code, filter-frame, filter-unknown, filter-link, by-filter, passes-none, passes-link, call-frame, call-nowhere, call-link}
 
 -- ---- the frames that reached an account, with one call more
-module _ (s : List ℕ) (past : List Call) (f : Call) (a : ℕ) where
-  abbrev reached-by : List Call → List Reached
-  reached-by own = leftBy (ruleOfAccount (imageTerms s a)) [] (map arrivalOf own)
+module _ (s : List ℕ) (f : Call) (a : ℕ) where
+  abbrev pub with-call : List Reached → List Reached
+  with-call z = if passing s a f then ruleStep (imageTerms s a) z (length (f .octets)) (f .time) .past else z
 
-  reached-same : passing s a f ≡ false → reachedIn s (f ∷ past) a ≡ reachedIn s past a
-  unfolding reachedIn
-  reached-same e = ap reached-by (only-drop (passing s a) f past e)
+  pub reached-next : (past : List Call) → reachedIn s (f ∷ past) a ≡ with-call (reachedIn s past a)
+  unfolding reachedIn only leftBy
+  reached-next past = split (passing s a f) (λ e. simp e) (λ e. simp e)
 
-  reached-more : passing s a f ≡ true → lengthCode (length (f .octets)) ≡ 0
+  pub reached-same : (past : List Call) → passing s a f ≡ false → reachedIn s (f ∷ past) a ≡ reachedIn s past a
+  reached-same past e = reached-next past ∙ simp e
+
+  reached-more : (past : List Call) → passing s a f ≡ true → lengthCode (length (f .octets)) ≡ 0
       → reachedIn s (f ∷ past) a ≡ ruleArrived (imageTerms s a) (reachedIn s past a) (length (f .octets)) (f .time) .past
-  unfolding reachedIn leftBy
-  reached-more e z =
-      ap reached-by (only-take (passing s a) f past e)
-      ∙ ap (λ r. r .past) (step-arrived (imageTerms s a) _ (length (f .octets)) (f .time) z)
+  reached-more past e z =
+      reached-next past ∙ simp (e, step-arrived (imageTerms s a) (reachedIn s past a) (length (f .octets)) (f .time) z)
 
 -- ---- the answer to a frame after a past, with its data
 abbrev pub account-of : List ℕ → List Call → ℕ → Account
@@ -70,7 +70,8 @@ link-verdict s past f Nowhere = told (Refused (filterCode s f))
 link-verdict s past f (At j) = withMask (imageLink s j .mask) (policed (account-of s past (imageLink s j .account)) (length (f .octets)) (f .time) .says)
 
 unfoldable pub verdict-for : List ℕ → List Call → Call → Told
-verdict-for s past f = if not (eqb (filterCode s f) 0) then told (Refused (filterCode s f)) else link-verdict s past f (linkRow s f)
+verdict-for s past f =
+    if not (eqb (filterCode s f) 0) then told (Refused (filterCode s f)) else link-verdict s past f (linkRow s f)
 
 -- ---- each account is the one that the frames which reached it leave
 pub record Stands (s : List ℕ) (g : Config) (past : List Call) (q : State) : Type 0 where
@@ -93,8 +94,8 @@ module _ (s : List ℕ) (g : Config) (t : Tables s g) (past : List Call) (q : St
       record {
         credit-room = st .credit-room;
         last-room = st .last-room;
-        is = λ i b. st .is i b ∙ ap (state (imageTerms s i)) (sym (reached-same s past f i (h i)));
-        sound = λ i b. subst (Sound (imageTerms s i)) (sym (reached-same s past f i (h i))) (st .sound i b);
+        is = λ i b. st .is i b ∙ ap (state (imageTerms s i)) (sym (reached-same s f i past (h i)));
+        sound = λ i b. subst (Sound (imageTerms s i)) (sym (reached-same s f i past (h i))) (st .sound i b);
       }
 
   refused-by : (c : ℕ) → filterCode s f ≡ c → (c ≡ 0 → ⊥) → Ruled s g past f (refusedWith c q)
@@ -194,10 +195,10 @@ module _ (s : List ℕ) (g : Config) (t : Tables s g) (past : List Call) (q : St
       passes i = passes-link s f i j z e zero-code
 
       past-same : reachedIn s (f ∷ past) a ≡ ruleArrived (imageTerms s a) (reachedIn s past a) n (f .time) .past
-      past-same = reached-more s past f a (passes a ∙ eq-eqb a a refl) right-size
+      past-same = reached-more s f a past (passes a ∙ eq-eqb a a refl) right-size
 
       past-other : (i : ℕ) → eqb a i ≡ false → reachedIn s (f ∷ past) i ≡ reachedIn s past i
-      past-other i d = reached-same s past f i (passes i ∙ d)
+      past-other i d = reached-same s f i past (passes i ∙ d)
 
       next-is : (i : ℕ) → i < readImage s .settings .accounts → accountHeld (g .accounts) after i ≡ account-of s (f ∷ past) i
       next-is i b =
@@ -246,7 +247,8 @@ module _ (s : List ℕ) (g : Config) (t : Tables s g) (past : List Call) (q : St
   one-call =
       by-filter s f
       (λ m. subst (Ruled s g past f) (sym (call-frame s g t q f m)) (refused-by (frame-code s f) (filter-frame s f m) m))
-      (λ z e. subst (Ruled s g past f) (sym (call-nowhere s g t q f z e)) (refused-by 4 (filter-unknown s f z e) (λ d. omega arith)))
+      (λ z e.
+      subst (Ruled s g past f) (sym (call-nowhere s g t q f z e)) (refused-by 4 (filter-unknown s f z e) (λ d. omega arith)))
       (λ z j e h. subst (Ruled s g past f) (sym (call-link s g t q f z j e h)) (over j h z e))
 
 -- ---- from tables just loaded
@@ -282,8 +284,8 @@ module _ (s : List ℕ) (r : Runs) (fresh : Fresh s r) (h : List Call) where
 
   pub history-stands : Stands s g (reverse h) (final g (stateIn r) h)
   history-stands =
-      subst (λ (past : List Call). Stands s g past (final g (stateIn r) h)) (final-calls (ruleCode s) h)
-      (simulated-final h each-code [] (stateIn r) (starts s r fresh))
+      subst (λ (past : List Call). Stands s g past (final g (stateIn r) h)) (final-calls (ruleCode s) h [])
+      (simulated h each-code [] (stateIn r) (starts s r fresh) .1)
 
 pub rule-of-fresh-tables : RuleOfFreshTables
-rule-of-fresh-tables s r fresh h = simulated-answers h (each-code s r fresh h) [] (stateIn r) (starts s r fresh)
+rule-of-fresh-tables s r fresh h = simulated h (each-code s r fresh h) [] (stateIn r) (starts s r fresh) .0

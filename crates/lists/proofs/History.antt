@@ -33,24 +33,17 @@ module _ {S C A : Type 0} (m : Machine S C A) where
   unfolding leftBy
   left-by h s = past-final h [] s
 
--- ---- the state of a rule is the past
-module _ {C A : Type 0} (rule : List C → C → A) where
-  calls-past : (h past : List C) → final (byCalls rule) past h ≡ reverseAux h past
-  unfolding final
-  calls-past [] past = refl
-  calls-past (c ∷ h) past = calls-past h (c ∷ past)
+-- ---- the state of a rule is the past; from none, `reverse` of the calls or of the answers
+pub final-calls : {C A : Type 0} (rule : List C → C → A) (h past : List C) → final (byCalls rule) past h ≡ reverseAux h past
+unfolding final
+final-calls rule [] past = refl
+final-calls rule (c ∷ h) past = final-calls rule h (c ∷ past)
 
-  pub final-calls : (h : List C) → final (byCalls rule) [] h ≡ reverse h
-  final-calls h = calls-past h []
-
-module _ {C A : Type 0} (rule : List A → C → A) where
-  answers-past : (h : List C) (past : List A) → final (byAnswers rule) past h ≡ reverseAux (answers (byAnswers rule) past h) past
-  unfolding answers final
-  answers-past [] past = refl
-  answers-past (c ∷ h) past = answers-past h (rule past c ∷ past)
-
-  pub final-answers : (h : List C) → final (byAnswers rule) [] h ≡ reverse (answers (byAnswers rule) [] h)
-  final-answers h = answers-past h []
+pub final-answers : {C A : Type 0} (rule : List A → C → A) (h : List C) (past : List A)
+    → final (byAnswers rule) past h ≡ reverseAux (answers (byAnswers rule) past h) past
+unfolding answers final
+final-answers rule [] past = refl
+final-answers rule (c ∷ h) past = final-answers rule h (rule past c ∷ past)
 
 -- ---- a simulation, on the calls of a list: from states that R relates, n answers what m's answer tells, and R relates what they
 -- leave
@@ -60,27 +53,20 @@ pub record Simulates {S T C A B : Type 0} (m : Machine S C A) (n : Machine T C B
       → (tells (m .says s c) ≡ n .says t c) × R (n .leaves t c) (m .leaves s c)
 
 module _ {S T C A B : Type 0} {m : Machine S C A} {n : Machine T C B} {tells : A → B} {R : T → S → Type 0} where
-  rest : (c : C) (h : List C) → Simulates m n tells R (c ∷ h) → Simulates m n tells R h
-  rest c h k = record { each = λ d i. k .each d (List·Memᴰ·tail i) }
-
-  pub simulated-answers : (h : List C) → Simulates m n tells R h → (t : T) (s : S) → R t s
-      → map tells (answers m s h) ≡ answers n t h
-  unfolding answers
-  simulated-answers [] k t s r = refl
-  simulated-answers (c ∷ h) k t s r =
+  -- then the whole list is answered so
+  pub simulated : (h : List C) → Simulates m n tells R h → (t : T) (s : S) → R t s
+      → (map tells (answers m s h) ≡ answers n t h) × R (final n t h) (final m s h)
+  unfolding answers final
+  simulated [] k t s r = (refl, r)
+  simulated (c ∷ h) k t s r =
       let q = k .each c (List·Memᴰ·head refl) t s r in
-      ap₂ _∷_ (q .0) (simulated-answers h (rest c h k) (n .leaves t c) (m .leaves s c) (q .1))
-
-  pub simulated-final : (h : List C) → Simulates m n tells R h → (t : T) (s : S) → R t s → R (final n t h) (final m s h)
-  unfolding final
-  simulated-final [] k t s r = r
-  simulated-final (c ∷ h) k t s r =
-      simulated-final h (rest c h k) (n .leaves t c) (m .leaves s c) (k .each c (List·Memᴰ·head refl) t s r .1)
+      let z = simulated h (record { each = λ d i. k .each d (List·Memᴰ·tail i) }) (n .leaves t c) (m .leaves s c) (q .1) in
+      (ap₂ _∷_ (q .0) (z .0), z .1)
 
 -- the same answers
-module _ {S T C A : Type 0} {m : Machine S C A} {n : Machine T C A} {R : T → S → Type 0} where
-  pub same-answers : (h : List C) → Simulates m n (λ x. x) R h → (t : T) (s : S) → R t s → answers m s h ≡ answers n t h
-  same-answers h k t s r = sym (map-id (answers m s h)) ∙ simulated-answers h k t s r
+pub same-answers : {S T C A : Type 0} {m : Machine S C A} {n : Machine T C A} {R : T → S → Type 0}
+    (h : List C) → Simulates m n (λ x. x) R h → (t : T) (s : S) → R t s → answers m s h ≡ answers n t h
+same-answers {m = m} h k t s r = sym (map-id (answers m s h)) ∙ simulated h k t s r .0
 
 -- ---- a simulation by the picked calls alone: these n answers as m does, and any other call, of which n knows nothing, keeps R
 pub record SimulatesPicked {S T C A : Type 0} (m : Machine S C A) (n : Machine T C A)
@@ -90,38 +76,29 @@ pub record SimulatesPicked {S T C A : Type 0} (m : Machine S C A) (n : Machine T
   pub others : (c : C) → List·Memᴰ c h → pick c ≡ false → (t : T) (s : S) → R t s → R t (m .leaves s c)
 
 module _ {S T C A : Type 0} {m : Machine S C A} {n : Machine T C A} {pick : C → Bool} {R : T → S → Type 0} where
-  rest-picked : (c : C) (h : List C) → SimulatesPicked m n pick R (c ∷ h) → SimulatesPicked m n pick R h
-  rest-picked c h k = record { picked = λ d i. k .picked d (List·Memᴰ·tail i); others = λ d i. k .others d (List·Memᴰ·tail i) }
+  rest : (c : C) (h : List C) → SimulatesPicked m n pick R (c ∷ h) → SimulatesPicked m n pick R h
+  rest c h k = record { picked = λ d i. k .picked d (List·Memᴰ·tail i); others = λ d i. k .others d (List·Memᴰ·tail i) }
 
-  pub picked-answers : (h : List C) → SimulatesPicked m n pick R h → (t : T) (s : S) → R t s
-      → answersTo pick h (answers m s h) ≡ answers n t (only pick h)
-  unfolding answers answersTo only
-  picked-answers [] k t s r = refl
-  picked-answers (c ∷ h) k t s r =
+  pub simulated-picked : (h : List C) → SimulatesPicked m n pick R h → (t : T) (s : S) → R t s
+      → (answersTo pick h (answers m s h) ≡ answers n t (only pick h)) × R (final n t (only pick h)) (final m s h)
+  unfolding answers final answersTo only
+  simulated-picked [] k t s r = (refl, r)
+  simulated-picked (c ∷ h) k t s r =
       split (pick c)
-      (λ e. let q = k .picked c (List·Memᴰ·head refl) e t s r in
-      simp e (ap₂ _∷_ (q .0) (picked-answers h (rest-picked c h k) (n .leaves t c) (m .leaves s c) (q .1))))
-      (λ e. simp e (picked-answers h (rest-picked c h k) t (m .leaves s c) (k .others c (List·Memᴰ·head refl) e t s r)))
-
-  pub picked-final : (h : List C) → SimulatesPicked m n pick R h → (t : T) (s : S) → R t s
-      → R (final n t (only pick h)) (final m s h)
-  unfolding final only
-  picked-final [] k t s r = r
-  picked-final (c ∷ h) k t s r =
-      split (pick c)
-      (λ e. let q = k .picked c (List·Memᴰ·head refl) e t s r in
-      simp e (picked-final h (rest-picked c h k) (n .leaves t c) (m .leaves s c) (q .1)))
-      (λ e. simp e (picked-final h (rest-picked c h k) t (m .leaves s c) (k .others c (List·Memᴰ·head refl) e t s r)))
+      (λ e.
+      let q = k .picked c (List·Memᴰ·head refl) e t s r in
+      let z = simulated-picked h (rest c h k) (n .leaves t c) (m .leaves s c) (q .1) in
+      simp e (ap₂ _∷_ (q .0) (z .0), z .1))
+      (λ e. simp e (simulated-picked h (rest c h k) t (m .leaves s c) (k .others c (List·Memᴰ·head refl) e t s r)))
 
 -- ---- two histories that share the picked calls: the same answers to these, and what they leave is related to one state
-module _ {S S′ T C A : Type 0} {m : Machine S C A} {m′ : Machine S′ C A} {n : Machine T C A}
-    {pick : C → Bool} {R : T → S → Type 0} {R′ : T → S′ → Type 0} where
-  pub alike : (h h′ : List C) → SimulatesPicked m n pick R h → SimulatesPicked m′ n pick R′ h′ → only pick h ≡ only pick h′
-      → (t : T) (s : S) → R t s → (s′ : S′) → R′ t s′
-      → (answersTo pick h (answers m s h) ≡ answersTo pick h′ (answers m′ s′ h′))
-      × R (final n t (only pick h)) (final m s h) × R′ (final n t (only pick h)) (final m′ s′ h′)
-  alike h h′ k k′ e t s r s′ r′ = (
-    picked-answers h k t s r ∙ ap (answers n t) e ∙ sym (picked-answers h′ k′ t s′ r′),
-    picked-final h k t s r,
-    subst (λ (z : List C). R′ (final n t z) (final m′ s′ h′)) (sym e) (picked-final h′ k′ t s′ r′),
-  )
+pub alike : {S S′ T C A : Type 0} {m : Machine S C A} {m′ : Machine S′ C A} {n : Machine T C A}
+    {pick : C → Bool} {R : T → S → Type 0} {R′ : T → S′ → Type 0}
+    (h h′ : List C) → SimulatesPicked m n pick R h → SimulatesPicked m′ n pick R′ h′ → only pick h ≡ only pick h′
+    → (t : T) (s : S) → R t s → (s′ : S′) → R′ t s′
+    → (answersTo pick h (answers m s h) ≡ answersTo pick h′ (answers m′ s′ h′))
+    × R (final n t (only pick h)) (final m s h) × R′ (final n t (only pick h)) (final m′ s′ h′)
+alike {C = C} {m′ = m′} {n = n} {R′ = R′} h h′ k k′ e t s r s′ r′ =
+    let z = simulated-picked h k t s r in
+    let z′ = simulated-picked h′ k′ t s′ r′ in
+    (z .0 ∙ ap (answers n t) e ∙ sym (z′ .0), z .1, subst (λ (g : List C). R′ (final n t g) (final m′ s′ h′)) (sym e) (z′ .1))

@@ -1,4 +1,5 @@
--- Histories: lists of calls, each on what the call before left. What a call is, what it answers and what it leaves is any.
+-- Histories: lists of calls, each on the state that the call before left. Calls, answers and states are of any types: a call may be
+-- one of several kinds, a state several runs.
 use mathlib.Core.List.{List, [], _∷_}
 
 -- how calls are answered: what a call on a state answers, and the state that it leaves
@@ -17,15 +18,15 @@ module _ {S C A : Type 0} (m : Machine S C A) where
   final s [] = s
   final s (c ∷ cs) = final (m .leaves s c) cs
 
-  -- the same of a past: calls with the newest first. Every past has that order
+  -- the state after a past. A past is a list of calls, or of answers, with the newest first
   unfoldable pub leftBy : S → List C → S
   leftBy s [] = s
   leftBy s (c ∷ past) = m .leaves (leftBy s past) c
 
--- ---- rules, which name no stored state: a call's answer from the calls before it
+-- ---- a rule, which reads no stored state: the answer to a call from the calls before it
 abbrev pub byCalls : {C A : Type 0} → (List C → C → A) → Machine (List C) C A
 byCalls rule = record { says = rule; leaves = λ past c. c ∷ past }
 
--- from the answers before it, which may carry their calls
+-- and one that reads the answers before it, which may carry their calls
 abbrev pub byAnswers : {C A : Type 0} → (List A → C → A) → Machine (List A) C A
 byAnswers rule = record { says = rule; leaves = λ past c. rule past c ∷ past }

@@ -6,7 +6,7 @@ use mathlib.Core.Path.{_≡_, refl, sym, ap, ap₂, _∙_, subst}
 use native.Mathlib.Omega.{arith}
 use lib.ListN.{length}
 use borrow.Author.Tests.{eqb-true, eqb-false}
-use Rattle.lists.proofs.History.{Simulates, same-answers, simulated-final, final-answers}
+use Rattle.lists.proofs.History.{Simulates, simulated, same-answers, final-answers}
 use Rattle.lists.proofs.Lists.{only-none, only-take, only-drop}
 use Rattle.lists.proofs.Tests.{split}
 use Rattle.octets.specs.Numbers.{numberAt}
@@ -151,9 +151,9 @@ stands-after : (rows r : List ℕ) → Empty rows r → (before : List Arrival) 
     → Stands rows (length r) (pastOf rows r before) (final rows r before)
 stands-after rows r z before o =
     subst (λ (p : List Answered). Stands rows (length r) p (final rows r before))
-    (final-answers (λ past f. answeredOf f (ruleAnswer rows (length r) past f)) before
+    (final-answers (λ past f. answeredOf f (ruleAnswer rows (length r) past f)) before []
     ∙ ap reverse (sym (rule-of-receptions rows r z before o)))
-    (simulated-final before (each-frame rows (length r) before o) [] r (starts rows r z))
+    (simulated before (each-frame rows (length r) before o) [] r (starts rows r z) .1)
 
 pub rule-of-next : RuleOfNext
 rule-of-next rows r z before o f h =

@@ -10,7 +10,7 @@ use native.Mathlib.Omega.{arith}
 use lib.Dec.{leb, eqb}
 use borrow.Author.Tests.{le-leb, lt-leb, lt-ltb, le-ltb, eq-eqb, ne-eqb, eqb-true, eqb-false}
 use Rattle.lists.proofs.Tests.{split}
-use Rattle.lists.proofs.History.{Simulates, simulated-answers, simulated-final}
+use Rattle.lists.proofs.History.{Simulates, simulated}
 use Rattle.frame.specs.Frame.{lengthCode}
 use Rattle.terms.specs.Terms.{inLimits, bag, rate, capacity, cost}
 use Rattle.terms.specs.declared.Terms.{Terms}
@@ -144,7 +144,7 @@ allowance-by-mode s k j since =
     (w _ _ (f .0 .0), w _ _ (f .1 .0), w _ _ (f .2 .0), w _ _ (f .3 .0))
 
 pub rule-of-steps : RuleOfSteps
-rule-of-steps p ok steps = simulated-answers steps (one-step p ok steps) [] (loaded p) (state-loaded p, tt)
+rule-of-steps p ok steps = simulated steps (one-step p ok steps) [] (loaded p) (state-loaded p, tt) .0
 
 -- ---- the rule in words
 
@@ -171,7 +171,7 @@ module _ (p : Terms) (past : List Reached) (n t : ℕ) (h : lastTime past ≤ t)
 
 pub steps-in-words : StepsInWords
 steps-in-words p ok before n t z h =
-    let a = simulated-final before (one-step p ok before) [] (loaded p) (state-loaded p, tt) in
+    let a = simulated before (one-step p ok before) [] (loaded p) (state-loaded p, tt) .1 in
     let past : List Reached = rulePast p [] before in
     in-words p past n t h (policed (accountAfter (loaded p) before) n t .says .code)
     (ap (λ (b : Account). policed b n t .says .code) (a .0) ∙ arrival p past (a .1) ok n t z .same-code)
