@@ -132,7 +132,7 @@ call-bench-table r long =
     let e = image-p-reads .0 in
     let z = accepted imageP accountP e fresh-p r long in
     let f = loaded-fresh imageP r z in
-    let one : 0 < readImage imageP .accounts = rw e (lit< tt) in (
+    let one : 0 < readImage imageP .settings .accounts = rw e (lit< tt) in (
       answer imageP accountP e fresh-p r long ∙ e,
       terms-p .0,
       terms-p .1,
