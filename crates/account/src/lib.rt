@@ -161,8 +161,7 @@ impl Account {
         }
         let topped = self.brought_to(capacity, time);
         let held = topped.credit;
-        let terms = self.terms;
-        let cost = terms.cost(octets);
+        let cost = self.terms.cost(octets);
         if held < cost {
             return Policed {
                 outcome: Outcome::Short(held),
