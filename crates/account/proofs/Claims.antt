@@ -19,7 +19,7 @@ use Rattle.account.specs.Claims.{ForwardedStepTakesCost, StepIsTopUpAndD
 use Rattle.account.specs.declared.Account.{Account}
 use Rattle.account.specs.declared.Outcome.{Outcome}
 use Rattle.account.specs.declared.Outcome.the-variants.{Forwarded, Short, Late, Refused}
-use Rattle.account.proofs.Methods.{valid-limits, valid-credit, valid-by, capacity-not, credit-at-high, brought-full, top-up-invalid, top-up-late, top-up-valid}
+use Rattle.account.proofs.Methods.{valid-limits, valid-credit, valid-by, capacity-not, credit-at-high, credit-at-full, top-up-invalid, top-up-late, top-up-valid}
 use Rattle.account.proofs.Methods.{cost-refused, cost-invalid, cost-valid, debit-enough, debit-short}
 use Rattle.account.proofs.Step.{by-step}
 
@@ -99,7 +99,7 @@ module _ (a : Account) (n t : ℕ) (z : lengthCode n ≡ 0) (v : valid a ≡ tru
   topped = holding a (creditAt a t) t
 
   topped-up : debited topped n ≡ debited (toppedUp a t) n
-  topped-up = ap (λ (b : Account). debited b n) (top-up-valid a t v h)
+  topped-up = ap (λ (b : Account). debited b n) (top-up-valid a t v h _ refl)
 
   cost-is : cost (termsOf a) n ≡ costOf topped n
   cost-is = cost-valid topped n z (valid-by topped (valid-limits a v) (credit-at-high a t))
@@ -125,10 +125,10 @@ pub step-is-top-up-and-debit : StepIsTopUpAndDebit
 step-is-top-up-and-debit a n t =
     by-reached a n t (λ q. q .account ≡ debited (toppedUp a t) n)
     (λ z v h l. debit-short (topped a n t z v h) n _ (cost-is a n t z v h) l ∙ topped-up a n t z v h)
-    (λ z v h l. debit-enough (topped a n t z v h) n _ (cost-is a n t z v h) l ∙ topped-up a n t z v h)
+    (λ z v h l. debit-enough (topped a n t z v h) n _ (cost-is a n t z v h) l _ refl ∙ topped-up a n t z v h)
 
 pub full-top-up : FullTopUp
-full-top-up a t v e h = sym (top-up-valid a t v h) ∙ sym (brought-full a t (holding a (a .credit) t) (capacity (termsOf a)) refl e refl)
+full-top-up a t v e h = sym (top-up-valid a t v h _ (ap (λ (x : ℕ). holding a x t) (credit-at-full a t e)))
 
 pub step-below-capacity : StepBelowCapacity
 step-below-capacity a n t s =

@@ -6,11 +6,11 @@ use native.Mathlib.Nat.{min-le-left}
 use native.Mathlib.Omega.{arith}
 use lib.Dec.{leb, eqb}
 use borrow.Author.Tests.{leb-true, le-leb, lt-leb, eq-eqb, ne-eqb}
+use Rattle.lists.specs.Choice.{if_then_else_}
 use Rattle.lists.proofs.Tests.{split, both}
 use Rattle.frame.specs.Frame.{lengthCode}
 use Rattle.terms.specs.Terms.{inLimits, rate, capacity, cost, checkedCapacity, checkedCost}
 use Rattle.terms.proofs.Limits.{limits, capacity-low}
-use Rattle.terms.proofs.Methods.{capacity-broken, capacity-kept}
 use Rattle.account.specs.Account.{termsOf, holding, valid, creditAt, capacityOf, costOf, toppedUp, debited}
 use Rattle.account.specs.declared.Account.{Account}
 
@@ -38,26 +38,19 @@ module _ (a : Account) where
   capacity-is v = simp v
 
   -- by the capacity of the values, 0 where these break a limit
+  capacity-by : (if leb (a .credit) (checkedCapacity (termsOf a)) then checkedCapacity (termsOf a) else 0) ≡ capacityOf a
+  unfolding valid capacityOf checkedCapacity
+  capacity-by =
+      split (inLimits (termsOf a))
+      (λ e. simp e)
+      (λ e. split (leb (a .credit) 0) (λ l. simp (e, l)) (λ l. simp (e, l)))
+
   module _ (full : ℕ) (f : full ≡ checkedCapacity (termsOf a)) where
-    kept-full : inLimits (termsOf a) ≡ true → full ≡ capacity (termsOf a)
-    kept-full e = f ∙ sym (capacity-kept (termsOf a) e)
-
-    broken-none : inLimits (termsOf a) ≡ false → 0 ≡ capacityOf a
-    unfolding valid
-    broken-none e = capacity-not (ap (λ (b : Bool). b && leb (a .credit) (capacity (termsOf a))) e)
-
     pub credit-over : full < a .credit → 0 ≡ capacityOf a
-    unfolding valid
-    credit-over h =
-        split (inLimits (termsOf a))
-        (λ e. capacity-not (ap₂ _&&_ e (lt-leb (a .credit) (capacity (termsOf a)) (rw (kept-full e) at h))))
-        broken-none
+    credit-over h = rw (← capacity-by) (simp (← f, lt-leb _ _ h))
 
     pub credit-within : a .credit ≤ full → full ≡ capacityOf a
-    credit-within h =
-        split (inLimits (termsOf a))
-        (λ e. kept-full e ∙ capacity-is (valid-by e (rw (kept-full e) at h)))
-        (λ e. f ∙ sym (capacity-broken (termsOf a) e) ∙ broken-none e)
+    credit-within h = rw (← capacity-by) (simp (← f, le-leb _ _ h))
 
   -- ---- what the capacity's answer says
   module _ (c : ℕ) (e : c ≡ capacityOf a) where
@@ -99,8 +92,9 @@ module _ (a : Account) where
   -- ---- top-up: b is the account that is given
   module _ (t : ℕ) where
     module _ (b : Account) where
-      pub brought-full : (c : ℕ) → c ≡ capacity (termsOf a) → a .credit ≡ c → b ≡ holding a (a .credit) t → b ≡ holding a (creditAt a t) t
-      brought-full c p e f = f ∙ ap (λ (x : ℕ). holding a x t) (credit-at-full t (e ∙ p))
+      pub brought-full : (c : ℕ) → c ≡ capacity (termsOf a) → a .credit ≤ c → c - a .credit ≡ 0
+          → b ≡ holding a (a .credit) t → b ≡ holding a (creditAt a t) t
+      brought-full c p h e f = f ∙ ap (λ (x : ℕ). holding a x t) (credit-at-full t (omega (arith, p)))
 
       pub brought-refilled : (w : ℕ) → w ≡ creditAt a t → b ≡ holding a w t → b ≡ holding a (creditAt a t) t
       brought-refilled w e f = f ∙ ap (λ (x : ℕ). holding a x t) e
@@ -113,9 +107,9 @@ module _ (a : Account) where
     unfolding toppedUp
     top-up-late v h = simp (v, lt-leb _ _ h)
 
-    pub top-up-valid : valid a ≡ true → a .last ≤ t → holding a (creditAt a t) t ≡ toppedUp a t
+    pub top-up-valid : valid a ≡ true → a .last ≤ t → (b : Account) → b ≡ holding a (creditAt a t) t → b ≡ toppedUp a t
     unfolding toppedUp
-    top-up-valid v h = simp (v, le-leb _ _ h)
+    top-up-valid v h b e = e ∙ simp (v, le-leb _ _ h)
 
   -- ---- cost and debit, by the code r of the length
   module _ (n : ℕ) where
@@ -133,13 +127,13 @@ module _ (a : Account) where
 
     pub cost-checked : valid a ≡ true → checkedCost (termsOf a) n ≡ costOf a n
     unfolding checkedCost costOf
-    cost-checked v = simp (v, valid-limits v)
+    cost-checked v = split (eqb (lengthCode n) 0) (λ z. simp (z, v, valid-limits v)) (λ z. simp (z, valid-limits v))
 
     module _ (x : ℕ) (e : x ≡ costOf a n) where
       pub debit-short : a .credit < x → a ≡ debited a n
       unfolding debited
       debit-short h = simp (← e, lt-leb _ _ h)
 
-      pub debit-enough : x ≤ a .credit → holding a (a .credit - x) (a .last) ≡ debited a n
+      pub debit-enough : x ≤ a .credit → (b : Account) → b ≡ holding a (a .credit - x) (a .last) → b ≡ debited a n
       unfolding debited
-      debit-enough h = simp (← e, le-leb _ _ h)
+      debit-enough h b f = f ∙ simp (← e, le-leb _ _ h)

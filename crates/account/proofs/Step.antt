@@ -1,15 +1,17 @@
 -- Laws of the policing step, case by case. Assumes nothing.
 use Prim.Native.Nat.{ℕ, _-_, _≤_, _<_}
 use mathlib.Core.Bool.{true, false}
-use mathlib.Core.Path.{_≡_, refl}
+use mathlib.Core.Path.{_≡_, refl, sym, _∙_}
 use lib.Dec.{ltb, leb, eqb}
 use borrow.Author.Tests.{lt-ltb, le-ltb, lt-leb, le-leb, eq-eqb, ne-eqb, eqb-true, eqb-false, ltb-true, ltb-false, leb-true, leb-false}
 use Rattle.lists.proofs.Tests.{split}
 use Rattle.frame.specs.Frame.{lengthCode}
-use Rattle.terms.specs.Terms.{cost}
+use Rattle.terms.specs.Terms.{cost, checkedCost}
+use Rattle.terms.proofs.Methods.{cost-kept}
 use Rattle.account.specs.Account.{termsOf, holding, valid, creditAt}
 use Rattle.account.specs.Step.{Stepped, stepped, judged, policed}
 use Rattle.account.specs.declared.Account.{Account}
+use Rattle.account.proofs.Methods.{valid-limits}
 use Rattle.account.specs.declared.Outcome.the-variants.{Forwarded, Short, Late, Refused}
 
 module _ (a : Account) (n t : ℕ) where
@@ -28,15 +30,18 @@ module _ (a : Account) (n t : ℕ) where
       unfolding policed
       police-late h = simp (eq-eqb _ _ z, v, lt-ltb _ _ h)
 
-      -- a frame that reaches the account: b is the account brought to the frame's time, x the cost, d the account that is given
-      module _ (h : a .last ≤ t) (b : Account) (p : b ≡ holding a (creditAt a t) t) (x : ℕ) (q : x ≡ cost (termsOf a) n) where
-        pub police-short : b .credit < x → stepped (Short (b .credit)) b ≡ policed a n t
-        unfolding policed judged
-        police-short l = simp (eq-eqb _ _ z, v, le-ltb _ _ h, ← q, p, lt-leb x (creditAt a t) (rw p at l))
+      -- a frame that reaches the account: b is the account brought to the frame's time, x the cost
+      module _ (h : a .last ≤ t) (b : Account) (p : b ≡ holding a (creditAt a t) t) (x : ℕ) (q : x ≡ checkedCost (termsOf a) n) where
+        costs : x ≡ cost (termsOf a) n
+        costs = q ∙ sym (cost-kept (termsOf a) (valid-limits a v) n z)
 
-        pub police-forwarded : (d : Account) → x ≤ b .credit → d ≡ holding a (b .credit - x) t → stepped (Forwarded (b .credit - x)) d ≡ policed a n t
+        pub police-short : b .credit < x → stepped (Short (b .credit)) (holding a (b .credit) t) ≡ policed a n t
         unfolding policed judged
-        police-forwarded d l e = simp (eq-eqb _ _ z, v, le-ltb _ _ h, ← q, e, p, le-leb x (creditAt a t) (rw p at l))
+        police-short l = simp (eq-eqb _ _ z, v, le-ltb _ _ h, ← costs, p, lt-leb x (creditAt a t) (rw p at l))
+
+        pub police-forwarded : x ≤ b .credit → stepped (Forwarded (b .credit - x)) (holding a (b .credit - x) t) ≡ policed a n t
+        unfolding policed judged
+        police-forwarded l = simp (eq-eqb _ _ z, v, le-ltb _ _ h, ← costs, p, le-leb x (creditAt a t) (rw p at l))
 
   -- by cases: what holds of each answer, and of the step where it is that answer
   pub by-step : (P : Stepped → Type 0)
@@ -56,8 +61,8 @@ module _ (a : Account) (n t : ℕ) where
       (λ l. rw (← police-late z v (ltb-true _ _ l)) (h z v (ltb-true _ _ l)))
       (λ l. let k = ltb-false _ _ l in
       split (leb (cost (termsOf a) n) (creditAt a t))
-      (λ m. rw (← police-forwarded z v k _ refl _ refl _ (leb-true _ _ m) refl) (j z v k (leb-true _ _ m)))
-      (λ m. rw (← police-short z v k _ refl _ refl (leb-false _ _ m)) (i z v k (leb-false _ _ m)))))
+      (λ m. rw (← police-forwarded z v k _ refl _ (cost-kept _ (valid-limits a v) n z) (leb-true _ _ m)) (j z v k (leb-true _ _ m)))
+      (λ m. rw (← police-short z v k _ refl _ (cost-kept _ (valid-limits a v) n z) (leb-false _ _ m)) (i z v k (leb-false _ _ m)))))
       (λ v. rw (← police-invalid z v) (g z v)))
       (λ e. let m = eqb-false _ _ e in rw (← police-length (lengthCode n) refl m) (f m))
 

@@ -30,6 +30,13 @@ pub enum Outcome {
     Refused(u8),
 }
 
+// What a policing step decides: its answer, and the credit and the last time that the account then has. Its terms stay.
+pub struct Ruling {
+    pub outcome: Outcome,
+    pub credit: u32,
+    pub last: u64,
+}
+
 // What a policing step gives: its answer, and the account after it.
 pub struct Policed {
     pub outcome: Outcome,
@@ -135,44 +142,60 @@ impl Account {
         self.holding(self.credit - cost, self.last)
     }
 
-    // The policing step: the answer for a frame of so many octets at a time, and the account after it.
-    pub fn police(self, octets: usize, time: u64) -> Policed
-        ensures { λ r. ⌜ steppedOf r ≡ policed self octets time ⌝ }
+    // An answer that changes nothing.
+    fn kept(self, outcome: Outcome) -> Ruling
+        ensures { λ r. ⌜ stepped (r .outcome) (holding self (r .credit) (r .last)) ≡ stepped outcome self ⌝ }
+    {
+        Ruling {
+            outcome,
+            credit: self.credit,
+            last: self.last,
+        }
+    }
+
+    // What the policing step decides of a frame of so many octets at a time.
+    pub fn judge(self, octets: usize, time: u64) -> Ruling
+        ensures { λ r. ⌜ stepped (r .outcome) (holding self (r .credit) (r .last)) ≡ policed self octets time ⌝ }
     {
         let code = frame::length_code(octets);
         if code != 0 {
-            return Policed {
-                outcome: Outcome::Refused(code),
-                account: self,
-            };
+            return self.kept(Outcome::Refused(code));
         }
         let capacity = self.capacity();
         if capacity == 0 {
-            return Policed {
-                outcome: Outcome::Refused(UNSOUND),
-                account: self,
-            };
+            return self.kept(Outcome::Refused(UNSOUND));
         }
         if time < self.last {
-            return Policed {
-                outcome: Outcome::Late(self.credit),
-                account: self,
-            };
+            return self.kept(Outcome::Late(self.credit));
         }
         let topped = self.brought_to(capacity, time);
         let held = topped.credit;
         let terms = self.terms;
         let cost = terms.cost(octets);
         if held < cost {
-            return Policed {
+            return Ruling {
                 outcome: Outcome::Short(held),
-                account: topped,
+                credit: held,
+                last: time,
             };
         }
         let left = held - cost;
-        Policed {
+        Ruling {
             outcome: Outcome::Forwarded(left),
-            account: self.holding(left, time),
+            credit: left,
+            last: time,
+        }
+    }
+
+    // The policing step: the answer for a frame of so many octets at a time, and the account after it.
+    pub fn police(self, octets: usize, time: u64) -> Policed
+        ensures { λ r. ⌜ steppedOf r ≡ policed self octets time ⌝ }
+    {
+        let step = self.judge(octets, time);
+        let outcome = step.outcome;
+        Policed {
+            outcome,
+            account: self.holding(step.credit, step.last),
         }
     }
 }

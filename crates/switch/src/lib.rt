@@ -80,7 +80,7 @@ fn decide(link: Link, used: usize, account: Account, octets: usize, ingress: Ing
     if !link.sound(used, account.terms.smax) {
         return refused(UNSOUND, account);
     }
-    let step = account.police(octets, ingress.time);
+    let step = account.judge(octets, ingress.time);
     let outcome = step.outcome;
     let unsound = refusal(outcome);
     if unsound != 0 {
@@ -90,11 +90,10 @@ fn decide(link: Link, used: usize, account: Account, octets: usize, ingress: Ing
     if code != 0 {
         return refused(code, account);
     }
-    let next = step.account;
     Decision {
         verdict: verdict_of(outcome, link.mask),
-        credit: next.credit,
-        last: next.last,
+        credit: step.credit,
+        last: step.last,
     }
 }
 

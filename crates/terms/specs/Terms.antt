@@ -65,7 +65,7 @@ charge mode n = n + added mode
 unfoldable pub rate : Terms → ℕ
 rate p = charge (p .mode) (p .smax)
 
--- Capacity: that times (BAG + J)
+-- capacity = rate × (BAG + J)
 unfoldable pub capacity : Terms → ℕ
 capacity p = rate p * (bag (p .k) + p .jitter)
 
@@ -77,14 +77,14 @@ byOctets mode = eqb mode byteMode || eqb mode lineByteMode
 unfoldable pub charged : Terms → ℕ → ℕ
 charged p n = charge (p .mode) (if byOctets (p .mode) then n else p .smax)
 
--- Cost: that times BAG
+-- cost = what is charged × BAG
 unfoldable pub cost : Terms → ℕ → ℕ
 cost p n = charged p n * bag (p .k)
 
--- ---- the methods: 0 where the values break a limit; the cost also where no frame has n octets
-
+-- the capacity as the method gives it: 0 where the values break a limit
 unfoldable pub checkedCapacity : Terms → ℕ
 checkedCapacity p = if inLimits p then capacity p else 0
 
+-- the cost as the method gives it: 0 where the values break a limit or no frame has n octets
 unfoldable pub checkedCost : Terms → ℕ → ℕ
-checkedCost p n = if eqb (lengthCode n) 0 && inLimits p then cost p n else 0
+checkedCost p n = if inLimits p && eqb (lengthCode n) 0 then cost p n else 0

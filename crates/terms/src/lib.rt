@@ -112,10 +112,10 @@ impl Terms {
     pub fn cost(self, octets: usize) -> u32
         ensures { λ r. ⌜ r ≡ checkedCost self octets ⌝ }
     {
-        if !frame::is_frame_size(octets) {
+        if !self.in_limits() {
             return 0;
         }
-        if !self.in_limits() {
+        if !frame::is_frame_size(octets) {
             return 0;
         }
         self.charged(octets as u16) * bag_of(self.k)

@@ -13,8 +13,8 @@ refused-requires c κs = search needs
 returns : tie.Need-returns
 returns c = search decided-link
 
-police-requires : tie.Need-police-requires
-police-requires c κs = search needs
+judge-requires : tie.Need-judge-requires
+judge-requires c κs = search needs
 
 refusal-requires : tie.Need-refusal-requires
 refusal-requires c κs = search needs
@@ -24,7 +24,7 @@ refused-requires-2 c κs = search needs
 
 returns-2 : tie.Need-returns-2
 returns-2 c =
-    decided-account _ _ _ _ _ _ _ (c .before .before .before .before .before .sound .ensures) (c .before .before .before .before .if1 .left) (c .before .before .before .before .before .before .pre) _ (c .before .before .before .police .ensures) _ (c .before .before .refusal .ensures)
+    decided-account _ _ _ _ _ _ _ (c .before .before .before .before .before .sound .ensures) (c .before .before .before .before .if1 .left) (c .before .before .before .before .before .before .pre) _ (c .before .before .before .judge .ensures) _ (c .before .before .refusal .ensures)
     (c .before .if2 .taken) _ (c .refused2 .ensures)
 
 port-code-requires : tie.Need-port-code-requires
@@ -35,7 +35,7 @@ refused-requires-3 c κs = search needs
 
 returns-3 : tie.Need-returns-3
 returns-3 c =
-    decided-port _ _ _ _ _ _ _ (c .before .before .before .before .before .before .before .sound .ensures) (c .before .before .before .before .before .before .if1 .left) (c .before .before .before .before .before .before .before .before .pre) _ (c .before .before .before .before .before .police .ensures) _ (c .before .before .before .before .refusal .ensures)
+    decided-port _ _ _ _ _ _ _ (c .before .before .before .before .before .before .before .sound .ensures) (c .before .before .before .before .before .before .if1 .left) (c .before .before .before .before .before .before .before .before .pre) _ (c .before .before .before .before .before .judge .ensures) _ (c .before .before .before .before .refusal .ensures)
     (c .before .before .before .if2 .left) _ (c .before .before .port-code .ensures) (c .before .if3 .taken) _ (c .refused3 .ensures)
 
 verdict-of-requires : tie.Need-verdict-of-requires
@@ -43,8 +43,8 @@ verdict-of-requires c κs = search needs
 
 returns-4 : tie.Need-returns-4
 returns-4 c =
-    decided-step _ _ _ _ _ _ _ (c .before .before .before .before .before .before .before .before .sound .ensures) (c .before .before .before .before .before .before .before .if1 .left) (c .before .before .before .before .before .before .before .before .before .pre) _ (c .before .before .before .before .before .before .police .ensures) _ (c .before .before .before .before .before .refusal .ensures)
-    (c .before .before .before .before .if2 .left) _ (c .before .before .before .port-code .ensures) (c .before .before .if3 .left) _ (c .verdict-of .ensures)
+    decided-step _ _ _ _ _ _ _ (c .before .before .before .before .before .before .before .sound .ensures) (c .before .before .before .before .before .before .if1 .left) (c .before .before .before .before .before .before .before .before .pre) _ (c .before .before .before .before .before .judge .ensures) _ (c .before .before .before .before .refusal .ensures)
+    (c .before .before .before .if2 .left) _ (c .before .before .port-code .ensures) (c .before .if3 .left) _ (c .verdict-of .ensures)
 
 pub decide-spec : {M : Type 1} → statement M
 decide-spec =
@@ -53,7 +53,7 @@ decide-spec =
     sound-requires
     refused-requires
     returns
-    police-requires
+    judge-requires
     refusal-requires
     refused-requires-2
     returns-2

@@ -1,14 +1,8 @@
 -- `brought_to`: a credit without room for more stays; any other is refilled. Assumes nothing.
-use mathlib.Core.Path.{_≡_}
-use native.Mathlib.Omega.{arith}
 use Rattle.account.proofs.Methods.{brought-full, brought-refilled}
 use borrow.Author.Needs.{needs}
 use Rattle.account.proofs.Account.brought_to.Statement.{statement}
 use Rattle.account.proofs.Account.brought_to.Tie as tie
-
--- without room the credit is the capacity
-full : (c : tie.Then1) → c .before .before .args .self .credit ≡ c .before .before .args .full
-full c = omega (arith, c .if1 .taken, c .before .before .pre .1 .0)
 
 sub-room : tie.Need-sub-room
 sub-room c = search needs
@@ -17,8 +11,7 @@ holding-requires : tie.Need-holding-requires
 holding-requires c κs = search needs
 
 returns : tie.Need-returns
-returns c =
-    brought-full (c .before .before .before .args .self) (c .before .before .before .args .time) _ _ (c .before .before .before .pre .0) (full (c .before)) (c .holding .ensures)
+returns c = search brought-full
 
 credit-at-requires : tie.Need-credit-at-requires
 credit-at-requires c κs = search needs
@@ -27,8 +20,7 @@ holding-requires-2 : tie.Need-holding-requires-2
 holding-requires-2 c κs = search needs
 
 returns-2 : tie.Need-returns-2
-returns-2 c =
-    brought-refilled (c .before .before .before .before .args .self) (c .before .before .before .before .args .time) _ _ (c .before .credit-at .ensures) (c .holding2 .ensures)
+returns-2 c = search brought-refilled
 
 pub brought-to-spec : {M : Type 1} → statement M
 brought-to-spec =

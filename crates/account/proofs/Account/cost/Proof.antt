@@ -9,7 +9,7 @@ capacity-requires : tie.Need-capacity-requires
 capacity-requires c κs = search needs
 
 returns : tie.Need-returns
-returns c = cost-invalid _ _ (none-invalid _ _ (c .before .capacity .ensures) (c .if1 .taken))
+returns c = search (cost-invalid, none-invalid)
 
 cost-requires : tie.Need-cost-requires
 cost-requires c κs = search needs

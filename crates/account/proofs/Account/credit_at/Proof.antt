@@ -14,7 +14,7 @@ refilled-requires : tie.Need-refilled-requires
 refilled-requires c κs = search needs
 
 returns : tie.Need-returns
-returns c = credit-at (c .before .before .before .args .self) _ _ _ _ (c .before .before .before .pre .0) (c .before .before .rate .ensures) (c .refilled .ensures)
+returns c = search credit-at
 
 pub credit-at-spec : {M : Type 1} → statement M
 credit-at-spec = tie.close (tie.spec rate-requires sub-refilled refilled-requires returns)

@@ -11,13 +11,13 @@ charge-requires : tie.Need-charge-requires
 charge-requires c κs = search needs
 
 returns : tie.Need-returns
-returns c = charged-octets (c .before .before .before .args .self) _ _ (c .before .before .by-octets .ensures) _ (c .before .if1 .taken) (c .charge .ensures)
+returns c = search charged-octets
 
 rate-requires : tie.Need-rate-requires
 rate-requires c κs = search needs
 
 returns-2 : tie.Need-returns-2
-returns-2 c = charged-smax (c .before .before .before .args .self) _ _ (c .before .before .by-octets .ensures) _ (c .before .if1 .left) (c .rate .ensures)
+returns-2 c = search charged-smax
 
 pub charged-spec : {M : Type 1} → statement M
 charged-spec =

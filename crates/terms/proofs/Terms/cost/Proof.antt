@@ -1,30 +1,32 @@
--- `cost`: by the octets, then by the limits, by which the product fits. Assumes nothing.
+-- `cost`: by the limits, then by the octets; by both the product fits. Assumes nothing.
 use native.Mathlib.Omega.{arith}
-use Rattle.terms.proofs.Methods.{no-frame, frame-high, limits-tested, none-charged, product-fits, product-given}
+use Rattle.terms.proofs.Methods.{none-charged, limits-tested, no-frame, frame-high, product-fits, product-given}
 use borrow.Author.Needs.{needs}
 use Rattle.terms.proofs.Terms.cost.Statement.{statement}
 use Rattle.terms.proofs.Terms.cost.Tie as tie
 
-is-frame-size-requires : tie.Need-is-frame-size-requires
-is-frame-size-requires c κs = search needs
-
-returns : tie.Need-returns
-returns c = search no-frame
-
 in-limits-requires : tie.Need-in-limits-requires
 in-limits-requires c κs = search needs
 
+returns : tie.Need-returns
+returns c = search none-charged
+
+is-frame-size-requires : tie.Need-is-frame-size-requires
+is-frame-size-requires c κs = search needs
+
 returns-2 : tie.Need-returns-2
-returns-2 c = search none-charged
+returns-2 c = search no-frame
 
 cast-charged : tie.Need-cast-charged
-cast-charged c = omega (arith, frame-high _ _ (c .before .before .before .is-frame-size .ensures) (c .before .before .if1 .left))
+cast-charged c =
+    let h = frame-high _ _ (c .before .before .before .in-limits .ensures) (c .before .before .if1 .left) _ _ (c .before .is-frame-size .ensures) (c .if2 .left) in
+    omega (arith, h)
 
 charged-requires : tie.Need-charged-requires
 charged-requires c κs = search needs
 
 bag-of-requires : tie.Need-bag-of-requires
-bag-of-requires c κs = limits-tested _ _ (c .before .before .in-limits .ensures) (c .before .if2 .left) .k-high
+bag-of-requires c κs = limits-tested _ _ (c .before .before .before .before .in-limits .ensures) (c .before .before .before .if1 .left) .k-high
 
 mul-result : tie.Need-mul-result
 mul-result c = record { fits = search product-fits }
@@ -36,9 +38,9 @@ pub cost-spec : {M : Type 1} → statement M
 cost-spec =
     tie.close
     (tie.spec
-    is-frame-size-requires
-    returns
     in-limits-requires
+    returns
+    is-frame-size-requires
     returns-2
     cast-charged
     charged-requires

@@ -8,22 +8,22 @@ cast-if1 : tie.Need-cast-if1
 cast-if1 c = search needs
 
 returns : tie.Need-returns
-returns c = smax-below (c .before .before .args .self) (c .if1 .taken)
+returns c = search smax-below
 
 cast-if2 : tie.Need-cast-if2
 cast-if2 c = search needs
 
 returns-2 : tie.Need-returns-2
-returns-2 c = smax-above (c .before .before .before .before .args .self) (c .before .before .if1 .left) (c .if2 .taken)
+returns-2 c = search smax-above
 
 returns-3 : tie.Need-returns-3
-returns-3 c = k-above (c .before .before .before .before .before .before .args .self) (c .before .before .before .before .if1 .left) (c .before .before .if2 .left) (c .if3 .taken)
+returns-3 c = search k-above
 
 returns-4 : tie.Need-returns-4
-returns-4 c = jitter-above (c .before .before .before .before .before .before .before .before .args .self) (c .before .before .before .before .before .before .if1 .left) (c .before .before .before .before .if2 .left) (c .before .before .if3 .left) (c .if4 .taken)
+returns-4 c = search jitter-above
 
 returns-5 : tie.Need-returns-5
-returns-5 c = mode-tested (c .before .before .before .before .before .before .before .before .before .args .self) (c .before .before .before .before .before .before .before .if1 .left) (c .before .before .before .before .before .if2 .left) (c .before .before .before .if3 .left) (c .before .if4 .left)
+returns-5 c = search mode-tested
 
 pub in-limits-spec : {M : Type 1} → statement M
 in-limits-spec =
