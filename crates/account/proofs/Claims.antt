@@ -99,7 +99,7 @@ module _ (a : Account) (n t : ℕ) (z : lengthCode n ≡ 0) (v : valid a ≡ tru
   topped = holding a (creditAt a t) t
 
   topped-up : debited topped n ≡ debited (toppedUp a t) n
-  topped-up = ap (λ (b : Account). debited b n) (top-up-valid a t v h _ refl)
+  topped-up = ap (λ (b : Account). debited b n) (top-up-valid a t v h _ refl _ refl)
 
   cost-is : cost (termsOf a) n ≡ costOf topped n
   cost-is = cost-valid topped n z (valid-by topped (valid-limits a v) (credit-at-high a t))
@@ -128,7 +128,7 @@ step-is-top-up-and-debit a n t =
     (λ z v h l. debit-enough (topped a n t z v h) n _ (cost-is a n t z v h) l _ refl ∙ topped-up a n t z v h)
 
 pub full-top-up : FullTopUp
-full-top-up a t v e h = sym (top-up-valid a t v h _ (ap (λ (x : ℕ). holding a x t) (credit-at-full a t e)))
+full-top-up a t v e h = sym (top-up-valid a t v h _ refl _ (ap (λ (x : ℕ). holding a x t) (credit-at-full a t e)))
 
 pub step-below-capacity : StepBelowCapacity
 step-below-capacity a n t s =

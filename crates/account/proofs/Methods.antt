@@ -11,7 +11,7 @@ use Rattle.lists.proofs.Tests.{split, both}
 use Rattle.frame.specs.Frame.{lengthCode}
 use Rattle.terms.specs.Terms.{inLimits, rate, capacity, cost, checkedCapacity, checkedCost}
 use Rattle.terms.proofs.Limits.{limits, capacity-low}
-use Rattle.account.specs.Account.{termsOf, holding, valid, creditAt, capacityOf, costOf, toppedUp, debited}
+use Rattle.account.specs.Account.{termsOf, holding, valid, creditAt, creditUpTo, capacityOf, costOf, toppedUp, debited}
 use Rattle.account.specs.declared.Account.{Account}
 
 module _ (a : Account) where
@@ -72,31 +72,31 @@ module _ (a : Account) where
     pub some-capacity : (c ≡ 0 → ⊥) → c ≡ capacity (termsOf a)
     some-capacity h = e ∙ sym (capacity-is (some-valid h))
 
-    pub some-room : (c ≡ 0 → ⊥) → a .credit ≤ c
-    some-room h = rw (some-capacity h) (valid-credit (some-valid h))
-
   -- ---- the topped-up credit, of a capacity and a rate
-  pub credit-at : (t c r w : ℕ) → c ≡ capacity (termsOf a) → r ≡ rate (termsOf a) → w ≡ min c (a .credit + r * (t - a .last)) → w ≡ creditAt a t
-  unfolding creditAt
-  credit-at t c r w p q e = e ∙ ap₂ (λ (x y : ℕ). min x (a .credit + y * (t - a .last))) p q
+  pub credit-at : (t c r w : ℕ) → r ≡ rate (termsOf a) → w ≡ min c (a .credit + r * (t - a .last)) → w ≡ creditUpTo a c t
+  unfolding creditUpTo
+  credit-at t c r w q e = e ∙ ap (λ (y : ℕ). min c (a .credit + y * (t - a .last))) q
+
+  -- a credit that has no room for more
+  pub credit-full : (t c : ℕ) → c ≤ a .credit → c ≡ creditUpTo a c t
+  unfolding creditUpTo
+  credit-full t c h = omega arith
 
   -- a credit at the capacity stays, however long the time
   pub credit-at-full : (t : ℕ) → a .credit ≡ capacity (termsOf a) → a .credit ≡ creditAt a t
-  unfolding creditAt
-  credit-at-full t e = omega (arith, e)
+  credit-at-full t e = e ∙ credit-full t (capacity (termsOf a)) (omega (arith, e))
 
   pub credit-at-high : (t : ℕ) → creditAt a t ≤ capacity (termsOf a)
-  unfolding creditAt
+  unfolding creditUpTo
   credit-at-high t = min-le-left _ _
 
   -- ---- top-up: b is the account that is given
   module _ (t : ℕ) where
-    module _ (b : Account) where
-      pub brought-full : (c : ℕ) → c ≡ capacity (termsOf a) → a .credit ≤ c → c - a .credit ≡ 0
-          → b ≡ holding a (a .credit) t → b ≡ holding a (creditAt a t) t
-      brought-full c p h e f = f ∙ ap (λ (x : ℕ). holding a x t) (credit-at-full t (omega (arith, p)))
+    module _ (c : ℕ) (b : Account) where
+      pub brought-full : c ≤ a .credit → b ≡ holding a c t → b ≡ holding a (creditUpTo a c t) t
+      brought-full h f = f ∙ ap (λ (x : ℕ). holding a x t) (credit-full t c h)
 
-      pub brought-refilled : (w : ℕ) → w ≡ creditAt a t → b ≡ holding a w t → b ≡ holding a (creditAt a t) t
+      pub brought-refilled : (w : ℕ) → w ≡ creditUpTo a c t → b ≡ holding a w t → b ≡ holding a (creditUpTo a c t) t
       brought-refilled w e f = f ∙ ap (λ (x : ℕ). holding a x t) e
 
     pub top-up-invalid : valid a ≡ false → a ≡ toppedUp a t
@@ -107,9 +107,9 @@ module _ (a : Account) where
     unfolding toppedUp
     top-up-late v h = simp (v, lt-leb _ _ h)
 
-    pub top-up-valid : valid a ≡ true → a .last ≤ t → (b : Account) → b ≡ holding a (creditAt a t) t → b ≡ toppedUp a t
+    pub top-up-valid : valid a ≡ true → a .last ≤ t → (c : ℕ) → c ≡ capacity (termsOf a) → (b : Account) → b ≡ holding a (creditUpTo a c t) t → b ≡ toppedUp a t
     unfolding toppedUp
-    top-up-valid v h b e = e ∙ simp (v, le-leb _ _ h)
+    top-up-valid v h c q b e = e ∙ ap (λ (x : ℕ). holding a (creditUpTo a x t) t) q ∙ simp (v, le-leb _ _ h)
 
   -- ---- cost and debit, by the code r of the length
   module _ (n : ℕ) where

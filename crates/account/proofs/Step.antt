@@ -1,15 +1,15 @@
 -- Laws of the policing step, case by case. Assumes nothing.
 use Prim.Native.Nat.{ℕ, _-_, _≤_, _<_}
 use mathlib.Core.Bool.{true, false}
-use mathlib.Core.Path.{_≡_, refl, sym, _∙_}
+use mathlib.Core.Path.{_≡_, refl, sym, ap₂, _∙_}
 use lib.Dec.{ltb, leb, eqb}
 use borrow.Author.Tests.{lt-ltb, le-ltb, lt-leb, le-leb, eq-eqb, ne-eqb, eqb-true, eqb-false, ltb-true, ltb-false, leb-true, leb-false}
 use Rattle.lists.proofs.Tests.{split}
 use Rattle.frame.specs.Frame.{lengthCode}
-use Rattle.terms.specs.Terms.{cost, checkedCost}
+use Rattle.terms.specs.Terms.{capacity, cost, checkedCost}
 use Rattle.terms.proofs.Methods.{cost-kept}
-use Rattle.account.specs.Account.{termsOf, holding, valid, creditAt}
-use Rattle.account.specs.Step.{Stepped, stepped, judged, policed}
+use Rattle.account.specs.Account.{termsOf, holding, valid, creditUpTo, creditAt}
+use Rattle.account.specs.Step.{Stepped, stepped, judged, judgedAt, policed}
 use Rattle.account.specs.declared.Account.{Account}
 use Rattle.account.proofs.Methods.{valid-limits}
 use Rattle.account.specs.declared.Outcome.the-variants.{Forwarded, Short, Late, Refused}
@@ -26,23 +26,29 @@ module _ (a : Account) (n t : ℕ) where
     police-invalid v = simp (eq-eqb _ _ z, v)
 
     module _ (v : valid a ≡ true) where
-      pub police-late : t < a .last → stepped (Late (a .credit)) a ≡ policed a n t
+      -- the capacity c and the cost x in hand
+      pub police-judged : (c x : ℕ) → c ≡ capacity (termsOf a) → x ≡ checkedCost (termsOf a) n → judgedAt a c x t ≡ policed a n t
       unfolding policed
-      police-late h = simp (eq-eqb _ _ z, v, lt-ltb _ _ h)
+      police-judged c x p q =
+          ap₂ (λ (f y : ℕ). judgedAt a f y t) p (q ∙ sym (cost-kept (termsOf a) (valid-limits a v) n z)) ∙ simp (eq-eqb _ _ z, v)
 
-      -- a frame that reaches the account: b is the account brought to the frame's time, x the cost
-      module _ (h : a .last ≤ t) (b : Account) (p : b ≡ holding a (creditAt a t) t) (x : ℕ) (q : x ≡ checkedCost (termsOf a) n) where
-        costs : x ≡ cost (termsOf a) n
-        costs = q ∙ sym (cost-kept (termsOf a) (valid-limits a v) n z)
+-- ---- a frame that costs x, of an account of capacity c
+module _ (a : Account) (c x t : ℕ) where
+  pub judged-late : t < a .last → stepped (Late (a .credit)) a ≡ judgedAt a c x t
+  unfolding judgedAt
+  judged-late h = simp (lt-ltb _ _ h)
 
-        pub police-short : b .credit < x → stepped (Short (b .credit)) (holding a (b .credit) t) ≡ policed a n t
-        unfolding policed judged
-        police-short l = simp (eq-eqb _ _ z, v, le-ltb _ _ h, ← costs, p, lt-leb x (creditAt a t) (rw p at l))
+  -- w is the topped-up credit
+  module _ (h : a .last ≤ t) (w : ℕ) (p : w ≡ creditUpTo a c t) where
+    pub judged-short : w < x → stepped (Short w) (holding a w t) ≡ judgedAt a c x t
+    unfolding judgedAt judged
+    judged-short l = simp (le-ltb _ _ h, ← p, lt-leb x w l)
 
-        pub police-forwarded : x ≤ b .credit → stepped (Forwarded (b .credit - x)) (holding a (b .credit - x) t) ≡ policed a n t
-        unfolding policed judged
-        police-forwarded l = simp (eq-eqb _ _ z, v, le-ltb _ _ h, ← costs, p, le-leb x (creditAt a t) (rw p at l))
+    pub judged-forwarded : x ≤ w → stepped (Forwarded (w - x)) (holding a (w - x) t) ≡ judgedAt a c x t
+    unfolding judgedAt judged
+    judged-forwarded l = simp (le-ltb _ _ h, ← p, le-leb x w l)
 
+module _ (a : Account) (n t : ℕ) where
   -- by cases: what holds of each answer, and of the step where it is that answer
   pub by-step : (P : Stepped → Type 0)
       → ((lengthCode n ≡ 0 → ⊥) → P (stepped (Refused (lengthCode n)) a))
@@ -57,14 +63,18 @@ module _ (a : Account) (n t : ℕ) where
       split (eqb (lengthCode n) 0)
       (λ e. let z = eqb-true _ _ e in
       split (valid a)
-      (λ v. split (ltb t (a .last))
-      (λ l. rw (← police-late z v (ltb-true _ _ l)) (h z v (ltb-true _ _ l)))
+      (λ v.
+      let full : ℕ = capacity (termsOf a) in
+      let x : ℕ = cost (termsOf a) n in
+      let s : judgedAt a full x t ≡ policed a n t = police-judged a n t z v full x refl (cost-kept _ (valid-limits a v) n z) in
+      split (ltb t (a .last))
+      (λ l. rw (← s, ← judged-late a full x t (ltb-true _ _ l)) (h z v (ltb-true _ _ l)))
       (λ l. let k = ltb-false _ _ l in
-      split (leb (cost (termsOf a) n) (creditAt a t))
-      (λ m. rw (← police-forwarded z v k _ refl _ (cost-kept _ (valid-limits a v) n z) (leb-true _ _ m)) (j z v k (leb-true _ _ m)))
-      (λ m. rw (← police-short z v k _ refl _ (cost-kept _ (valid-limits a v) n z) (leb-false _ _ m)) (i z v k (leb-false _ _ m)))))
-      (λ v. rw (← police-invalid z v) (g z v)))
-      (λ e. let m = eqb-false _ _ e in rw (← police-length (lengthCode n) refl m) (f m))
+      split (leb x (creditAt a t))
+      (λ m. rw (← s, ← judged-forwarded a full x t k _ refl (leb-true _ _ m)) (j z v k (leb-true _ _ m)))
+      (λ m. rw (← s, ← judged-short a full x t k _ refl (leb-false _ _ m)) (i z v k (leb-false _ _ m)))))
+      (λ v. rw (← police-invalid a n t z v) (g z v)))
+      (λ e. let m = eqb-false _ _ e in rw (← police-length a n t (lengthCode n) refl m) (f m))
 
   -- a step changes the credit and the last time alone
   pub policed-keeps : holding a (policed a n t .account .credit) (policed a n t .account .last) ≡ policed a n t .account

@@ -27,9 +27,12 @@ loaded p = accountOf p (capacity p) 0
 unfoldable pub valid : Account → Bool
 valid a = inLimits (termsOf a) && leb (a .credit) (capacity (termsOf a))
 
--- the credit topped up to time t: what the elapsed time adds to it, never above the capacity
-unfoldable pub creditAt : Account → ℕ → ℕ
-creditAt a t = min (capacity (termsOf a)) (a .credit + rate (termsOf a) * (t - a .last))
+-- the credit topped up to time t: what the elapsed time adds to it, never above `full`; and never above the capacity
+unfoldable pub creditUpTo : Account → ℕ → ℕ → ℕ
+creditUpTo a full t = min full (a .credit + rate (termsOf a) * (t - a .last))
+
+abbrev pub creditAt : Account → ℕ → ℕ
+creditAt a t = creditUpTo a (capacity (termsOf a)) t
 
 -- ---- the methods: each gives 0, or changes nothing, where the policing step refuses what that method is given
 

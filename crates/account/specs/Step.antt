@@ -5,8 +5,8 @@ use mathlib.Core.Option.{Option, none, some}
 use lib.Dec.{ltb, leb, eqb}
 use Rattle.lists.specs.Choice.{if_then_else_}
 use Rattle.frame.specs.Frame.{lengthCode}
-use Rattle.terms.specs.Terms.{cost}
-use Rattle.account.specs.Account.{termsOf, holding, valid, creditAt}
+use Rattle.terms.specs.Terms.{capacity, cost}
+use Rattle.account.specs.Account.{termsOf, holding, valid, creditUpTo}
 use Rattle.account.specs.declared.Account.{Account}
 use Rattle.account.specs.declared.Policed.{Policed}
 use Rattle.account.specs.declared.Outcome.{Outcome}
@@ -42,10 +42,13 @@ judged a c x t =
     then stepped (Forwarded (c - x)) (holding a (c - x) t)
     else stepped (Short c) (holding a c t)
 
+-- the same at time t, for a capacity in hand: late before the last time, else by the credit topped up to the time
+unfoldable pub judgedAt : Account → ℕ → ℕ → ℕ → Stepped
+judgedAt a full x t = if ltb t (a .last) then stepped (Late (a .credit)) a else judged a (creditUpTo a full t) x t
+
 -- the step for a frame of n octets at time t: the length, the account, the time and then the credit decide
 unfoldable pub policed : Account → ℕ → ℕ → Stepped
 policed a n t =
     if not (eqb (lengthCode n) 0) then stepped (Refused (lengthCode n)) a
     else if not (valid a) then stepped (Refused 10) a
-    else if ltb t (a .last) then stepped (Late (a .credit)) a
-    else judged a (creditAt a t) (cost (termsOf a) n) t
+    else judgedAt a (capacity (termsOf a)) (cost (termsOf a) n) t

@@ -3,9 +3,8 @@
 // changes a record that is lent.
 ghost use mathlib.Core.Path.{_≡_};
 ghost use Prim.Native.Nat.{_+_, _*_, _≤_, min};
-ghost use Rattle.terms.specs.Terms.{capacity};
-ghost use Rattle.account.specs.Account.{termsOf, holding, creditAt, capacityOf, costOf, toppedUp, debited};
-ghost use Rattle.account.specs.Step.{stepped, steppedOf, policed};
+ghost use Rattle.account.specs.Account.{holding, creditUpTo, capacityOf, costOf, toppedUp, debited};
+ghost use Rattle.account.specs.Step.{stepped, steppedOf, judgedAt, policed};
 use terms::Terms;
 
 // An elapsed time in which any rate but 0 adds more than a credit can hold.
@@ -30,7 +29,7 @@ pub enum Outcome {
     Refused(u8),
 }
 
-// What a policing step decides: its answer, and the credit and the last time that the account then has. Its terms stay.
+// What is decided of a frame: the answer, and the credit and the last time that the account then has. Its terms stay.
 pub struct Ruling {
     pub outcome: Outcome,
     pub credit: u32,
@@ -64,10 +63,10 @@ fn refilled(capacity: u32, credit: u32, rate: u32, elapsed: u64) -> u32
 }
 
 impl Account {
-    // The topped-up credit at a time that is not before the last; `full` is the account's capacity.
+    // The credit topped up to a time that is not before the last, at most `full`.
     fn credit_at(self, full: u32, time: u64) -> u32
-        requires { ⌜ full ≡ capacity (termsOf self) ⌝ ∗ ⌜ self .last ≤ time ⌝ }
-        ensures { λ r. ⌜ r ≡ creditAt self time ⌝ }
+        requires { ⌜ self .last ≤ time ⌝ }
+        ensures { λ r. ⌜ r ≡ creditUpTo self full time ⌝ }
     {
         refilled(full, self.credit, self.terms.rate(), time - self.last)
     }
@@ -81,15 +80,14 @@ impl Account {
         self
     }
 
-    // The account brought to a time that is not before the last; `full` is its capacity. An account at capacity has no
-    // room for a refill: the time alone is stored.
+    // The account brought to a time that is not before the last, with a credit of at most `full`. An account at capacity
+    // has no room for a refill: the time alone is stored.
     fn brought_to(self, full: u32, time: u64) -> Account
-        requires { ⌜ full ≡ capacity (termsOf self) ⌝ ∗ ⌜ self .credit ≤ full ⌝ ∗ ⌜ self .last ≤ time ⌝ }
-        ensures { λ r. ⌜ r ≡ holding self (creditAt self time) time ⌝ }
+        requires { ⌜ self .last ≤ time ⌝ }
+        ensures { λ r. ⌜ r ≡ holding self (creditUpTo self full time) time ⌝ }
     {
-        let room = full - self.credit;
-        if room == 0 {
-            return self.holding(self.credit, time);
+        if full <= self.credit {
+            return self.holding(full, time);
         }
         self.holding(self.credit_at(full, time), time)
     }
@@ -142,36 +140,18 @@ impl Account {
         self.holding(self.credit - cost, self.last)
     }
 
-    // An answer that changes nothing.
-    fn kept(self, outcome: Outcome) -> Ruling
-        ensures { λ r. ⌜ stepped (r .outcome) (holding self (r .credit) (r .last)) ≡ stepped outcome self ⌝ }
+    // What is decided of a frame that costs so much at a time, for a capacity in hand: late, short or forwarded.
+    pub fn judge(self, full: u32, cost: u32, time: u64) -> Ruling
+        ensures { λ r. ⌜ stepped (r .outcome) (holding self (r .credit) (r .last)) ≡ judgedAt self full cost time ⌝ }
     {
-        Ruling {
-            outcome,
-            credit: self.credit,
-            last: self.last,
-        }
-    }
-
-    // What the policing step decides of a frame of so many octets at a time.
-    pub fn judge(self, octets: usize, time: u64) -> Ruling
-        ensures { λ r. ⌜ stepped (r .outcome) (holding self (r .credit) (r .last)) ≡ policed self octets time ⌝ }
-    {
-        let code = frame::length_code(octets);
-        if code != 0 {
-            return self.kept(Outcome::Refused(code));
-        }
-        let capacity = self.capacity();
-        if capacity == 0 {
-            return self.kept(Outcome::Refused(UNSOUND));
-        }
         if time < self.last {
-            return self.kept(Outcome::Late(self.credit));
+            return Ruling {
+                outcome: Outcome::Late(self.credit),
+                credit: self.credit,
+                last: self.last,
+            };
         }
-        let topped = self.brought_to(capacity, time);
-        let held = topped.credit;
-        let terms = self.terms;
-        let cost = terms.cost(octets);
+        let held = self.brought_to(full, time).credit;
         if held < cost {
             return Ruling {
                 outcome: Outcome::Short(held),
@@ -191,7 +171,21 @@ impl Account {
     pub fn police(self, octets: usize, time: u64) -> Policed
         ensures { λ r. ⌜ steppedOf r ≡ policed self octets time ⌝ }
     {
-        let step = self.judge(octets, time);
+        let code = frame::length_code(octets);
+        if code != 0 {
+            return Policed {
+                outcome: Outcome::Refused(code),
+                account: self,
+            };
+        }
+        let capacity = self.capacity();
+        if capacity == 0 {
+            return Policed {
+                outcome: Outcome::Refused(UNSOUND),
+                account: self,
+            };
+        }
+        let step = self.judge(capacity, self.terms.cost(octets), time);
         let outcome = step.outcome;
         Policed {
             outcome,

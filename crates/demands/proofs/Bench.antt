@@ -11,8 +11,8 @@ use Rattle.octets.specs.Numbers.{numberAt}
 use Rattle.octets.specs.Runs.{octetsAt, joined}
 use Rattle.frame.specs.Frame.{lengthCode}
 use Rattle.terms.specs.Terms.{byteMode, frameMode, inLimits, bag, added, charge, rate, capacity, byOctets, charged, cost}
-use Rattle.account.specs.Account.{valid, creditAt}
-use Rattle.account.specs.Step.{judged, policed}
+use Rattle.account.specs.Account.{valid, creditUpTo}
+use Rattle.account.specs.Step.{judged, judgedAt, policed}
 use Rattle.rule.specs.Bench.{Case, termsP, byteCases, frameCases}
 use Rattle.lists.specs.Leading.{leading}
 use Rattle.rows.specs.Rows.{foundIn}
@@ -76,11 +76,11 @@ abbrev full : State
 full = stateOf (300000 ∷ []) (0 ∷ [])
 
 computed : answers (config-by accountP answerP) full (calls byteCases) ≡ verdicts byteCases
-unfolding History.answers called routed frameCode lengthCode numberAt foundIn leading linkAt accountHeld termsAt inUse decided portsSound sizesSound linkSound inLimits bag added charge rate capacity byOctets charged cost valid creditAt judged policed portCode
+unfolding History.answers called routed frameCode lengthCode numberAt foundIn leading linkAt accountHeld termsAt inUse decided portsSound sizesSound linkSound inLimits bag added charge rate capacity byOctets charged cost valid creditUpTo judged judgedAt policed portCode
 computed = refl
 
 computed-frame : answers (config-by accountP1 answerP) full (calls frameCases) ≡ verdicts frameCases
-unfolding History.answers called routed frameCode lengthCode numberAt foundIn leading linkAt accountHeld termsAt inUse decided portsSound sizesSound linkSound inLimits bag added charge rate capacity byOctets charged cost valid creditAt judged policed portCode
+unfolding History.answers called routed frameCode lengthCode numberAt foundIn leading linkAt accountHeld termsAt inUse decided portsSound sizesSound linkSound inLimits bag added charge rate capacity byOctets charged cost valid creditUpTo judged judgedAt policed portCode
 computed-frame = refl
 
 -- ---- and from every load
@@ -116,7 +116,7 @@ module _ (s account : List ℕ) (e : readImage s ≡ answerP) (fresh : Fresh s (
       )
 
 computed-left : final (config-by accountP answerP) full (calls byteCases) ≡ stateOf (100000 ∷ []) ((2 ^ 64 - 1) ∷ [])
-unfolding History.final called routed frameCode lengthCode numberAt foundIn leading linkAt accountHeld termsAt inUse decided portsSound sizesSound linkSound inLimits bag added charge rate capacity byOctets charged cost valid creditAt judged policed portCode
+unfolding History.final called routed frameCode lengthCode numberAt foundIn leading linkAt accountHeld termsAt inUse decided portsSound sizesSound linkSound inLimits bag added charge rate capacity byOctets charged cost valid creditUpTo judged judgedAt policed portCode
 computed-left = refl
 
 terms-p : (imageTerms imageP 0 ≡ termsP byteMode) × (imageTerms frameImageP 0 ≡ termsP frameMode)

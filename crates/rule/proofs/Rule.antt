@@ -14,7 +14,7 @@ use Rattle.lists.proofs.History.{Simulates, simulated}
 use Rattle.frame.specs.Frame.{lengthCode}
 use Rattle.terms.specs.Terms.{inLimits, bag, rate, capacity, cost}
 use Rattle.terms.specs.declared.Terms.{Terms}
-use Rattle.account.specs.Account.{accountOf, holding, loaded, valid, creditAt}
+use Rattle.account.specs.Account.{accountOf, holding, loaded, valid, creditUpTo, creditAt}
 use Rattle.account.specs.Step.{Stepped, stepped, policed}
 use Rattle.rule.specs.Bucket.{Reached, reached, lastTime, ruleHolds, FromEach}
 use Rattle.rule.specs.Rule.{Arrival, steppingAccount, accountAfter, allowance, Ruled, ruled, ruleArrived, ruleStep, ruleOfAccount, rulePast, AllowanceByMode, RuleOfSteps, StepsInWords}
@@ -59,7 +59,7 @@ module _ (p : Terms) where
 
   module _ (past : List Reached) (s : Sound past) where
     credit-is : (t : ℕ) → creditAt (state past) t ≡ topped (capacity p) (rate p) past t
-    unfolding creditAt topped gain
+    unfolding creditUpTo topped gain
     credit-is t = refl
 
     -- the rule's test is that of the topped-up credit

@@ -1,6 +1,6 @@
 -- Laws of the frame call, case by case as the code goes. Assumes nothing.
 use Prim.Native.Nat.{ℕ, _+_, _-_, _*_, _/_, _≤_, _<_, min}
-use mathlib.Core.Bool.{Bool, true, false, not, _&&_, false≢true}
+use mathlib.Core.Bool.{Bool, true, false, not, _&&_}
 use mathlib.Core.List.{List}
 use mathlib.Core.Path.{_≡_, refl, sym, ap, _∙_}
 use native.Mathlib.Nat.{zero-add, mul-comm, div-mul-le-self}
@@ -12,10 +12,12 @@ use borrow.Author.Tests.{eq-eqb, ne-eqb, eqb-true, eqb-false, not-true, not-fals
 use Rattle.lists.proofs.Tests.{split}
 use Rattle.frame.specs.Frame.{lengthCode, linkNumber}
 use Rattle.terms.specs.declared.Terms.{Terms}
-use Rattle.account.specs.Account.{accountOf, valid}
-use Rattle.account.specs.Step.{Stepped, policed}
+use Rattle.terms.specs.Terms.{checkedCost}
+use Rattle.account.specs.Account.{termsOf, accountOf, valid, capacityOf}
+use Rattle.account.specs.Step.{Stepped, judgedAt, policed}
 use Rattle.account.specs.declared.Account.{Account}
-use Rattle.account.proofs.Step.{by-step}
+use Rattle.account.proofs.Methods.{none-invalid, some-valid, some-capacity}
+use Rattle.account.proofs.Step.{police-judged}
 use Rattle.tables.specs.Rows.{Config, accountOctets, termsAt, found}
 use Rattle.tables.specs.Rules.{linkSound}
 use Rattle.rows.specs.declared.Found.{Found}
@@ -24,7 +26,7 @@ use Rattle.tables.proofs.Rows.{terms-within}
 use Rattle.tables.proofs.Rules.{account-past}
 use Rattle.filter.specs.declared.Route.{Route}
 use Rattle.filter.specs.declared.Route.the-variants.{Stopped, Over}
-use Rattle.switch.specs.Verdict.{Told, withMask, refusalOf}
+use Rattle.switch.specs.Verdict.{Told, withMask}
 use Rattle.filter.specs.Filter.{frameCode, portCode, routeTo, routed}
 use Rattle.switch.specs.Call.{State, stateOf, Call, After, inUse, accountsInUse, accountHeld, Decided, kept, stepOn, decided, stored, refusedWith, settled, called}
 use Rattle.filter.proofs.Filter.{frame-zero, route-stopped, route-row}
@@ -66,53 +68,30 @@ pub held-again : (accounts : List ℕ) (s : State) (i : ℕ)
 unfolding accountHeld
 held-again accounts s i = λ k. stateOf (set-getD (s .credits) i 0 k) (set-getD (s .lasts) i 0 k)
 
--- ---- of a frame's size the step refuses an invalid account alone, as 10
-module _ (a : Account) (n t : ℕ) (z : lengthCode n ≡ 0) where
-  refusal-invalid : valid a ≡ false → refusalOf (policed a n t .says) ≡ 10
-  refusal-invalid v =
-      by-step a n t (λ q. refusalOf (q .says) ≡ 10)
-      (λ m. absurd (m z)) (λ _ _. refl)
-      (λ _ w. absurd (false≢true (sym v ∙ w))) (λ _ w. absurd (false≢true (sym v ∙ w))) (λ _ w. absurd (false≢true (sym v ∙ w)))
-
-  refusal-valid : valid a ≡ true → refusalOf (policed a n t .says) ≡ 0
-  refusal-valid v =
-      by-step a n t (λ q. refusalOf (q .says) ≡ 0)
-      (λ m. absurd (m z)) (λ _ w. absurd (false≢true (sym w ∙ v)))
-      (λ _ _ _. refl) (λ _ _ _ _. refl) (λ _ _ _ _. refl)
-
 -- ---- what is decided
 module _ (l : Link) (used : ℕ) (a : Account) (n port t : ℕ) (r : Bool) (e : r ≡ linkSound l used (a .terms .smax)) where
   pub decided-link : not r ≡ true → (d : Decided) → d ≡ kept 10 a → d ≡ decided l used a n port t
   unfolding decided
   decided-link h d q = q ∙ simp (← e, not-true r h)
 
-  -- the step is in hand, and the code c with which it refuses
-  module _ (h : not r ≡ false) (z : lengthCode n ≡ 0) (s : Stepped) (u : s ≡ policed a n t) (c : ℕ) (f : c ≡ refusalOf (s .says)) where
-    refusal-is : c ≡ refusalOf (policed a n t .says)
-    refusal-is = f ∙ ap (λ (q : Stepped). refusalOf (q .says)) u
-
-    pub decided-account : (c ≡ 0 → ⊥) → (d : Decided) → d ≡ kept c a → d ≡ decided l used a n port t
+  module _ (h : not r ≡ false) (c : ℕ) (f : c ≡ capacityOf a) where
+    pub decided-account : c ≡ 0 → (d : Decided) → d ≡ kept 10 a → d ≡ decided l used a n port t
     unfolding decided
-    decided-account m d q =
-        split (valid a)
-        (λ v. absurd (m (refusal-is ∙ refusal-valid a n t z v)))
-        (λ v. q ∙ ap (λ (x : ℕ). kept x a) (refusal-is ∙ refusal-invalid a n t z v) ∙ simp (← e, not-false r h, v))
+    decided-account z d q = q ∙ simp (← e, not-false r h, none-invalid a c f z)
 
-    module _ (m : c ≡ 0) where
-      sound : valid a ≡ true
-      sound =
-          split (valid a) (λ v. v)
-          (λ v. let k : c ≡ 10 = refusal-is ∙ refusal-invalid a n t z v in absurd (omega arith))
+    module _ (z : c ≡ 0 → ⊥) (x : ℕ) (p : x ≡ portCode l n port) where
+      pub decided-port : (x ≡ 0 → ⊥) → (d : Decided) → d ≡ kept x a → d ≡ decided l used a n port t
+      unfolding decided
+      decided-port m d q = q ∙ simp (← e, not-false r h, some-valid a c f z, p, ne-eqb (portCode l n port) 0 (rw p at m))
 
-      module _ (x : ℕ) (p : x ≡ portCode l n port) where
-        pub decided-port : (x ≡ 0 → ⊥) → (d : Decided) → d ≡ kept x a → d ≡ decided l used a n port t
-        unfolding decided
-        decided-port k d q = q ∙ simp (← e, not-false r h, sound, p, ne-eqb (portCode l n port) 0 (rw p at k))
-
-        pub decided-step : x ≡ 0 → (w : Told) → w ≡ withMask (l .mask) (s .says)
-            → _≡_ {A = Decided} (record { says = w; credit = s .account .credit; last = s .account .last }) (decided l used a n port t)
-        unfolding decided
-        decided-step k w v = simp (v, u, ← e, not-false r h, sound, eq-eqb (portCode l n port) 0 (sym p ∙ k))
+      -- the cost y in hand, and what is judged by it
+      pub decided-step : x ≡ 0 → lengthCode n ≡ 0 → (y : ℕ) → y ≡ checkedCost (termsOf a) n → (s : Stepped) → s ≡ judgedAt a c y t
+          → (w : Told) → w ≡ withMask (l .mask) (s .says)
+          → _≡_ {A = Decided} (record { says = w; credit = s .account .credit; last = s .account .last }) (decided l used a n port t)
+      unfolding decided
+      decided-step m k y g s u w v =
+          let q : s ≡ policed a n t = u ∙ police-judged a n t k (some-valid a c f z) c y (some-capacity a c f z) g in
+          simp (v, q, ← e, not-false r h, some-valid a c f z, eq-eqb (portCode l n port) 0 (sym p ∙ m))
 
 -- of an unsound link or an invalid account
 pub decided-unsound : (l : Link) (used : ℕ) (a : Account) (n port t : ℕ) → (linkSound l used (a .terms .smax) && valid a) ≡ false → decided l used a n port t ≡ kept 10 a

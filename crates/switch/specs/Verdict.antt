@@ -22,14 +22,6 @@ told (Short c) = tells 9 none (some c)
 told (Late c) = tells 8 none (some c)
 told (Refused n) = tells n none none
 
--- the code of a step that refuses what it is given, which carries no credit; 0 of any other
-abbrev pub refusalIn : ℕ → Option ℕ → ℕ
-refusalIn code none = code
-refusalIn code (some c) = 0
-
-abbrev pub refusalOf : StepTold → ℕ
-refusalOf w = refusalIn (w .code) (w .credit)
-
 -- what a policing step tells, on a link with this mask: a forwarded frame gets the mask beside its credit
 abbrev pub maskFor : ℕ → ℕ → Option ℕ → Option ℕ
 maskFor mask code none = none

@@ -5,7 +5,7 @@ ghost use lib.ListN.{length, getD};
 ghost use Rattle.account.specs.Step.{told as stepTold};
 ghost use Rattle.frame.specs.Frame.{lengthCode};
 ghost use Rattle.tables.specs.Rows.{accountOctets, configFor};
-ghost use Rattle.switch.specs.Verdict.{told, withMask, refusalOf};
+ghost use Rattle.switch.specs.Verdict.{told, withMask};
 ghost use Rattle.switch.specs.Call.{inUse, accountHeld, decisionOf, kept, decided, stateOf, callOf, afterOf, called};
 use account::Account;
 use account::Outcome;
@@ -48,18 +48,6 @@ fn verdict_of(outcome: Outcome, mask: u32) -> Verdict
     }
 }
 
-// The code of a step that refuses what it is given; 0 of any other.
-fn refusal(outcome: Outcome) -> u8
-    ensures { λ r. ⌜ r ≡ refusalOf (stepTold outcome) ⌝ }
-{
-    match outcome {
-        Outcome::Refused(code) => code,
-        Outcome::Forwarded(credit) => 0,
-        Outcome::Short(credit) => 0,
-        Outcome::Late(credit) => 0,
-    }
-}
-
 // A refusal that leaves the account as it is.
 fn refused(code: u8, account: Account) -> Decision
     ensures { λ r. ⌜ decisionOf r ≡ kept code account ⌝ }
@@ -72,7 +60,7 @@ fn refused(code: u8, account: Account) -> Decision
 }
 
 // What is decided of a frame for its link and account, `used` accounts being in use: 10, then 5, 6 and 7, then the
-// policing step. The step is asked once, before the port: of a frame's size it refuses only as 10.
+// policing step. The capacity is asked once, and handed on.
 fn decide(link: Link, used: usize, account: Account, octets: usize, ingress: Ingress) -> Decision
     requires { ⌜ lengthCode octets ≡ 0 ⌝ }
     ensures { λ r. ⌜ decisionOf r ≡ decided link used account octets (ingress .port) (ingress .time) ⌝ }
@@ -80,16 +68,16 @@ fn decide(link: Link, used: usize, account: Account, octets: usize, ingress: Ing
     if !link.sound(used, account.terms.smax) {
         return refused(UNSOUND, account);
     }
-    let step = account.judge(octets, ingress.time);
-    let outcome = step.outcome;
-    let unsound = refusal(outcome);
-    if unsound != 0 {
-        return refused(unsound, account);
+    let capacity = account.capacity();
+    if capacity == 0 {
+        return refused(UNSOUND, account);
     }
     let code = filter::port_code(link, octets, ingress.port);
     if code != 0 {
         return refused(code, account);
     }
+    let step = account.judge(capacity, account.terms.cost(octets), ingress.time);
+    let outcome = step.outcome;
     Decision {
         verdict: verdict_of(outcome, link.mask),
         credit: step.credit,

@@ -26,8 +26,8 @@ const LINE_OCTETS: u32 = 20;
 // Smax in octets, k of a BAG of 2^k milliseconds, jitter in microseconds, mode.
 pub struct Terms {
     pub smax: u16,
-    pub k: u8,
     pub jitter: u16,
+    pub k: u8,
     pub mode: u8,
 }
 

@@ -1,4 +1,4 @@
--- `decide`: the link, the step, the port and the sizes. Assumes nothing.
+-- `decide`: the link, the account, the port and the sizes, then the step. Assumes nothing.
 use Rattle.switch.proofs.Call.{decided-link, decided-account, decided-port, decided-step}
 use borrow.Author.Needs.{needs}
 use Rattle.switch.proofs.decide.Statement.{statement}
@@ -13,19 +13,14 @@ refused-requires c κs = search needs
 returns : tie.Need-returns
 returns c = search decided-link
 
-judge-requires : tie.Need-judge-requires
-judge-requires c κs = search needs
-
-refusal-requires : tie.Need-refusal-requires
-refusal-requires c κs = search needs
+capacity-requires : tie.Need-capacity-requires
+capacity-requires c κs = search needs
 
 refused-requires-2 : tie.Need-refused-requires-2
 refused-requires-2 c κs = search needs
 
 returns-2 : tie.Need-returns-2
-returns-2 c =
-    decided-account _ _ _ _ _ _ _ (c .before .before .before .before .before .sound .ensures) (c .before .before .before .before .if1 .left) (c .before .before .before .before .before .before .pre) _ (c .before .before .before .judge .ensures) _ (c .before .before .refusal .ensures)
-    (c .before .if2 .taken) _ (c .refused2 .ensures)
+returns-2 c = search decided-account
 
 port-code-requires : tie.Need-port-code-requires
 port-code-requires c κs = search needs
@@ -34,17 +29,21 @@ refused-requires-3 : tie.Need-refused-requires-3
 refused-requires-3 c κs = search needs
 
 returns-3 : tie.Need-returns-3
-returns-3 c =
-    decided-port _ _ _ _ _ _ _ (c .before .before .before .before .before .before .before .sound .ensures) (c .before .before .before .before .before .before .if1 .left) (c .before .before .before .before .before .before .before .before .pre) _ (c .before .before .before .before .before .judge .ensures) _ (c .before .before .before .before .refusal .ensures)
-    (c .before .before .before .if2 .left) _ (c .before .before .port-code .ensures) (c .before .if3 .taken) _ (c .refused3 .ensures)
+returns-3 c = search decided-port
+
+cost-requires : tie.Need-cost-requires
+cost-requires c κs = search needs
+
+judge-requires : tie.Need-judge-requires
+judge-requires c κs = search needs
 
 verdict-of-requires : tie.Need-verdict-of-requires
 verdict-of-requires c κs = search needs
 
 returns-4 : tie.Need-returns-4
 returns-4 c =
-    decided-step _ _ _ _ _ _ _ (c .before .before .before .before .before .before .before .sound .ensures) (c .before .before .before .before .before .before .if1 .left) (c .before .before .before .before .before .before .before .before .pre) _ (c .before .before .before .before .before .judge .ensures) _ (c .before .before .before .before .refusal .ensures)
-    (c .before .before .before .if2 .left) _ (c .before .before .port-code .ensures) (c .before .if3 .left) _ (c .verdict-of .ensures)
+    decided-step _ _ _ _ _ _ _ (c .before .before .before .before .before .before .before .before .sound .ensures) (c .before .before .before .before .before .before .before .if1 .left) _ (c .before .before .before .before .before .before .capacity .ensures) (c .before .before .before .before .before .if2 .left) _ (c .before .before .before .before .port-code .ensures)
+    (c .before .before .before .if3 .left) (c .before .before .before .before .before .before .before .before .before .pre) _ (c .before .before .cost .ensures) _ (c .before .judge .ensures) _ (c .verdict-of .ensures)
 
 pub decide-spec : {M : Type 1} → statement M
 decide-spec =
@@ -53,12 +52,13 @@ decide-spec =
     sound-requires
     refused-requires
     returns
-    judge-requires
-    refusal-requires
+    capacity-requires
     refused-requires-2
     returns-2
     port-code-requires
     refused-requires-3
     returns-3
+    cost-requires
+    judge-requires
     verdict-of-requires
     returns-4)

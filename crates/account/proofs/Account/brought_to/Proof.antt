@@ -4,9 +4,6 @@ use borrow.Author.Needs.{needs}
 use Rattle.account.proofs.Account.brought_to.Statement.{statement}
 use Rattle.account.proofs.Account.brought_to.Tie as tie
 
-sub-room : tie.Need-sub-room
-sub-room c = search needs
-
 holding-requires : tie.Need-holding-requires
 holding-requires c κs = search needs
 
@@ -24,5 +21,4 @@ returns-2 c = search brought-refilled
 
 pub brought-to-spec : {M : Type 1} → statement M
 brought-to-spec =
-    tie.close
-    (tie.spec sub-room holding-requires returns credit-at-requires holding-requires-2 returns-2)
+    tie.close (tie.spec holding-requires returns credit-at-requires holding-requires-2 returns-2)
