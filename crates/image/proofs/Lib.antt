@@ -5,3 +5,4 @@ pub mod Claims
 pub mod Passing
 pub mod Prefix
 pub mod Reading
+pub mod Values

@@ -2,7 +2,9 @@
 ghost use mathlib.Core.Path.{_≡_};
 ghost use Prim.Native.Nat.{_≤_, _<_};
 ghost use Rattle.layout.specs.Layout.{accountTag, linkTag, maxAccounts, maxLinks};
-ghost use Rattle.image.specs.Read.{fieldCode, headGood, headCode, inOrder, dataOctets, isFull, valuesGood, nextCode, goodField};
+ghost use Rattle.tables.specs.Rows.{accountIn, linkIn};
+ghost use Rattle.tables.specs.Rules.{numberRises};
+ghost use Rattle.image.specs.Read.{accountFields, linkFields, fieldCode, headGood, headCode, inOrder, dataOctets, isFull, valuesGood, nextCode, goodField};
 use fields::Field;
 use layout::codes;
 
@@ -141,7 +143,26 @@ pub(crate) fn good_account(image: &[u8], i: u16) -> bool
     if !fields::stands(image, at, layout::ACCOUNT_TAG, ACCOUNT_LENGTH) {
         return false;
     }
-    tables::account_good(image, layout::account_fields(), i)
+    let row = at + fields::TAG_AND_LENGTH;
+    tables::terms_at(&image[row..row + tables::ACCOUNT_OCTETS], 0).in_limits()
+}
+
+// Whether the number of link j is above that of the link before it.
+fn number_rises(image: &[u8], accounts: u16, j: u16, number: u16) -> bool
+    requires { ⌜ number ≡ linkIn (linkFields (now image) accounts) j .number ⌝ }
+    ensures { λ r. ⌜ r ≡ numberRises (linkFields (now (image .entry)) accounts) j ⌝ }
+{
+    if j == 0 {
+        return true;
+    }
+    octets::u16_at(image, layout::data_place(accounts, j - 1)) < number
+}
+
+// Smax of an account of the image.
+fn smax_of(image: &[u8], account: u16) -> u16
+    ensures { λ r. ⌜ r ≡ accountIn (accountFields (now (image .entry))) account .smax ⌝ }
+{
+    octets::u16_at(image, layout::data_place(account, 0))
 }
 
 // Whether the field after so many accounts and links is a link that passes every check.
@@ -153,12 +174,10 @@ pub(crate) fn good_link(image: &[u8], accounts: u16, j: u16) -> bool
     if !fields::stands(image, at, layout::LINK_TAG, LINK_LENGTH) {
         return false;
     }
-    tables::link_good(
-        image,
-        layout::account_fields(),
-        accounts,
-        image,
-        layout::link_fields(accounts),
-        j,
-    )
+    let row = at + fields::TAG_AND_LENGTH;
+    let link = tables::link_at(&image[row..row + tables::LINK_OCTETS], 0);
+    if !number_rises(image, accounts, j, link.number) {
+        return false;
+    }
+    link.sound(accounts as usize, smax_of(image, link.account))
 }

@@ -46,10 +46,15 @@ pub link-read : (s : List ℕ) (at n p w i z a : ℕ) → n ≡ numberAt 2 s at 
 unfolding linkAt
 link-read s at n p w i z a h1 h2 h3 h4 h5 h6 = rw (h1, h2, h3, h4, h5, h6)
 
--- ---- an account's row lent as a part of n octets
+-- ---- a row lent as a part of n octets
 pub terms-within : (s : List ℕ) (at n : ℕ) → accountOctets ≤ n → termsAt (take n (drop at s)) 0 ≡ termsAt s at
 terms-within s at n h =
     terms-same (take n (drop at s)) s 0 at
+    (λ k l. ap (λ (i : ℕ). getD (take n (drop at s)) i 0) (zero-add k) ∙ getD-within n at s k (omega arith))
+
+pub link-within : (s : List ℕ) (at n : ℕ) → linkOctets ≤ n → linkAt (take n (drop at s)) 0 ≡ linkAt s at
+link-within s at n h =
+    link-same (take n (drop at s)) s 0 at
     (λ k l. ap (λ (i : ℕ). getD (take n (drop at s)) i 0) (zero-add k) ∙ getD-within n at s k (omega arith))
 
 -- ---- a row whose octets e were laid at the start of d

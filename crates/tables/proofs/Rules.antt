@@ -134,11 +134,15 @@ module _ (a l : Rows) (n j : ℕ) (r : Bool) (e : r ≡ numberRises l j) where
   unfolding linkGood
   link-falls h = simp (← e, not-true r h)
 
-  pub link-row : not r ≡ false → (at : ℕ) (k : Link) (x : ℕ) (z : Bool) → at ≡ min (l .first) (length (l .octets)) + l .step * j → k ≡ linkAt (l .octets) at
-      → x ≡ accountIn a (k .account) .smax → z ≡ linkSound k n x → z ≡ linkGood a l n j
+  -- by the link and its account's Smax in hand
+  pub link-values : not r ≡ false → (k : Link) (x : ℕ) (z : Bool) → k ≡ linkIn l j → x ≡ accountIn a (k .account) .smax → z ≡ linkSound k n x
+      → z ≡ linkGood a l n j
   unfolding linkGood
-  link-row h at k x z f g u v =
-      let m : k ≡ linkIn l j = g ∙ link-near (l .octets) (l .first) (l .step * j) at f in
+  link-values h k x z m u v =
       v ∙ ap (linkSound k n) u
       ∙ ap (λ (b : Link). linkSound b n (accountIn a (b .account) .smax)) m
       ∙ simp (← e, not-false r h)
+
+  pub link-row : not r ≡ false → (at : ℕ) (k : Link) (x : ℕ) (z : Bool) → at ≡ min (l .first) (length (l .octets)) + l .step * j → k ≡ linkAt (l .octets) at
+      → x ≡ accountIn a (k .account) .smax → z ≡ linkSound k n x → z ≡ linkGood a l n j
+  link-row h at k x z f g = link-values h k x z (g ∙ link-near (l .octets) (l .first) (l .step * j) at f)

@@ -1,8 +1,7 @@
 -- `good_account`: a field that stands whole, then its values. Assumes nothing.
-use mathlib.Core.Path.{ap, _∙_}
-use Rattle.rows.specs.Rows.{rowsBy}
-use Rattle.tables.specs.Rules.{accountGood}
+use native.Mathlib.Omega.{arith}
 use Rattle.image.proofs.Passing.{account-unlike, account-valued}
+use Rattle.image.proofs.Values.{inside, account-values}
 use borrow.Author.Needs.{needs}
 use Rattle.image.proofs.field.good_account.Statement.{statement}
 use Rattle.image.proofs.field.good_account.Tie as tie
@@ -16,18 +15,31 @@ stands-requires c κs = search needs
 returns : tie.Need-returns
 returns c = account-unlike _ _ _ (c .before .before .field-place .ensures) _ (c .before .stands .ensures) (c .if1 .taken)
 
-account-fields-requires : tie.Need-account-fields-requires
-account-fields-requires c κs = search needs
+add-row : tie.Need-add-row
+add-row c = omega (arith, inside _ _ _ _ _ (c .before .stands .ensures) (c .if1 .left))
 
-account-good-requires : tie.Need-account-good-requires
-account-good-requires c κs = search needs
+add-terms-at : tie.Need-add-terms-at
+add-terms-at c = omega (arith, inside _ _ _ _ _ (c .before .stands .ensures) (c .if1 .left))
+
+sub-terms-at : tie.Need-sub-terms-at
+sub-terms-at c = search needs
+
+part-terms-at-start : tie.Need-part-terms-at-start
+part-terms-at-start c = search needs
+
+part-terms-at-end : tie.Need-part-terms-at-end
+part-terms-at-end c = omega (arith, inside _ _ _ _ _ (c .before .stands .ensures) (c .if1 .left))
+
+terms-at-requires : tie.Need-terms-at-requires
+terms-at-requires c κs = search needs
+
+in-limits-requires : tie.Need-in-limits-requires
+in-limits-requires c κs = search needs
 
 returns-2 : tie.Need-returns-2
 returns-2 c =
-    let a = c .before .before .before .before .before .before .args in
-    account-valued _ _ _ (c .before .before .before .before .field-place .ensures) _ (c .before .before .before .stands .ensures) (c .before .before .if1 .left)
-    (c .before .before .before .before .before .before .pre) _
-    (c .account-good .ensures ∙ ap (λ p. accountGood (rowsBy (a .image .now) p) (a .i)) (c .before .account-fields .ensures))
+    account-valued _ _ _ (c .before .before .before .before .before .field-place .ensures) _ (c .before .before .before .before .stands .ensures) (c .before .before .before .if1 .left) (c .before .before .before .before .before .before .before .pre) _
+    (account-values _ _ _ (c .before .before .before .before .before .field-place .ensures) _ (c .before .terms-at .ensures) _ (c .in-limits .ensures))
 
 pub good-account-spec : {M : Type 1} → statement M
 good-account-spec =
@@ -36,6 +48,11 @@ good-account-spec =
     field-place-requires
     stands-requires
     returns
-    account-fields-requires
-    account-good-requires
+    add-row
+    add-terms-at
+    sub-terms-at
+    part-terms-at-start
+    part-terms-at-end
+    terms-at-requires
+    in-limits-requires
     returns-2)

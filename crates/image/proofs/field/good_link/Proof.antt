@@ -1,8 +1,11 @@
--- `good_link`: a field that stands whole, then its values. Assumes nothing.
-use mathlib.Core.Path.{ap₂, _∙_}
-use Rattle.rows.specs.Rows.{rowsBy}
-use Rattle.tables.specs.Rules.{linkGood}
+-- `good_link`: a field that stands whole, then its number and its values. Assumes nothing.
+use mathlib.Core.Path.{ap, _∙_}
+use native.Mathlib.Omega.{arith}
+use Rattle.tables.specs.declared.Link.{Link}
+use Rattle.tables.proofs.Rules.{link-falls, link-values}
+use Rattle.image.specs.Read.{accountFields, linkFields}
 use Rattle.image.proofs.Passing.{link-unlike, link-valued}
+use Rattle.image.proofs.Values.{inside, link-in}
 use borrow.Author.Needs.{needs}
 use Rattle.image.proofs.field.good_link.Statement.{statement}
 use Rattle.image.proofs.field.good_link.Tie as tie
@@ -16,21 +19,45 @@ stands-requires c κs = search needs
 returns : tie.Need-returns
 returns c = link-unlike _ _ _ _ (c .before .before .field-place .ensures) _ (c .before .stands .ensures) (c .if1 .taken)
 
-account-fields-requires : tie.Need-account-fields-requires
-account-fields-requires c κs = search needs
+add-row : tie.Need-add-row
+add-row c = omega (arith, inside _ _ _ _ _ (c .before .stands .ensures) (c .if1 .left))
 
-link-fields-requires : tie.Need-link-fields-requires
-link-fields-requires c κs = search needs
+add-link-at : tie.Need-add-link-at
+add-link-at c = omega (arith, inside _ _ _ _ _ (c .before .stands .ensures) (c .if1 .left))
 
-link-good-requires : tie.Need-link-good-requires
-link-good-requires c κs = search needs
+sub-link-at : tie.Need-sub-link-at
+sub-link-at c = search needs
+
+part-link-at-start : tie.Need-part-link-at-start
+part-link-at-start c = search needs
+
+part-link-at-end : tie.Need-part-link-at-end
+part-link-at-end c = omega (arith, inside _ _ _ _ _ (c .before .stands .ensures) (c .if1 .left))
+
+link-at-requires : tie.Need-link-at-requires
+link-at-requires c κs = search needs
+
+number-rises-requires : tie.Need-number-rises-requires
+number-rises-requires c κs = ap (λ (l : Link). l .number) (link-in _ _ _ _ (c .before .before .before .before .field-place .ensures) _ (c .link-at .ensures))
 
 returns-2 : tie.Need-returns-2
 returns-2 c =
-    let a = c .before .before .before .before .before .before .before .args in
-    link-valued _ _ _ _ (c .before .before .before .before .before .field-place .ensures) _ (c .before .before .before .before .stands .ensures) (c .before .before .before .if1 .left)
-    (c .before .before .before .before .before .before .before .pre .0) (c .before .before .before .before .before .before .before .pre .1) _
-    (c .link-good .ensures ∙ ap₂ (λ p q. linkGood (rowsBy (a .image .now) p) (rowsBy (a .image .now) q) (a .accounts) (a .j)) (c .before .before .account-fields .ensures) (c .before .link-fields .ensures))
+    let a = c .before .before .before .before .before .before .before .before .args in
+    link-valued _ _ _ _ (c .before .before .before .before .before .before .field-place .ensures) _ (c .before .before .before .before .before .stands .ensures) (c .before .before .before .before .if1 .left) (c .before .before .before .before .before .before .before .before .pre .0) (c .before .before .before .before .before .before .before .before .pre .1) _
+    (link-falls (accountFields (a .image .now)) (linkFields (a .image .now) (a .accounts)) _ _ _ (c .before .number-rises .ensures) (c .if2 .taken))
+
+smax-of-requires : tie.Need-smax-of-requires
+smax-of-requires c κs = search needs
+
+sound-requires : tie.Need-sound-requires
+sound-requires c κs = search needs
+
+returns-3 : tie.Need-returns-3
+returns-3 c =
+    let a = c .before .before .before .before .before .before .before .before .before .before .args in
+    link-valued _ _ _ _ (c .before .before .before .before .before .before .before .before .field-place .ensures) _ (c .before .before .before .before .before .before .before .stands .ensures) (c .before .before .before .before .before .before .if1 .left) (c .before .before .before .before .before .before .before .before .before .before .pre .0) (c .before .before .before .before .before .before .before .before .before .before .pre .1) _
+    (link-values (accountFields (a .image .now)) (linkFields (a .image .now) (a .accounts)) _ _ _ (c .before .before .before .number-rises .ensures) (c .before .before .if2 .left)
+    _ _ _ (link-in _ _ _ _ (c .before .before .before .before .before .before .before .before .field-place .ensures) _ (c .before .before .before .before .link-at .ensures)) (c .before .smax-of .ensures) (c .sound .ensures))
 
 pub good-link-spec : {M : Type 1} → statement M
 good-link-spec =
@@ -39,7 +66,14 @@ good-link-spec =
     field-place-requires
     stands-requires
     returns
-    account-fields-requires
-    link-fields-requires
-    link-good-requires
-    returns-2)
+    add-row
+    add-link-at
+    sub-link-at
+    part-link-at-start
+    part-link-at-end
+    link-at-requires
+    number-rises-requires
+    returns-2
+    smax-of-requires
+    sound-requires
+    returns-3)

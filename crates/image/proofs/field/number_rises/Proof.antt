@@ -1,0 +1,26 @@
+-- `number_rises`: the first link, or two numbers compared. Assumes nothing.
+use Rattle.tables.proofs.Rules.{rises-first}
+use Rattle.image.specs.Read.{linkFields}
+use Rattle.image.proofs.Values.{rises-above}
+use borrow.Author.Needs.{needs}
+use Rattle.image.proofs.field.number_rises.Statement.{statement}
+use Rattle.image.proofs.field.number_rises.Tie as tie
+
+returns : tie.Need-returns
+returns c = let a = c .before .before .args in rises-first (linkFields (a .image .now) (a .accounts)) _ (c .if1 .taken)
+
+sub-data-place : tie.Need-sub-data-place
+sub-data-place c = search needs
+
+data-place-requires : tie.Need-data-place-requires
+data-place-requires c κs = search needs
+
+u16-at-requires : tie.Need-u16-at-requires
+u16-at-requires c κs = search needs
+
+returns-2 : tie.Need-returns-2
+returns-2 c = rises-above _ _ _ (c .before .before .if1 .left) _ _ _ (c .before .data-place .ensures) (c .u16-at .ensures) (c .before .before .before .before .pre)
+
+pub number-rises-spec : {M : Type 1} → statement M
+number-rises-spec =
+    tie.close (tie.spec returns sub-data-place data-place-requires u16-at-requires returns-2)
