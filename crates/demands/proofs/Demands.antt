@@ -1,5 +1,6 @@
 -- The three demands, from the claims that they gather. Assumes nothing.
 use Rattle.octets.proofs.Claims.{reads-back, writes-back}
+use Rattle.fields.proofs.Claims.{field-reads-back, field-is-spelled}
 use Rattle.frame.proofs.Claims.{length-limits, payload-length, reading-answers, reading-refused}
 use Rattle.terms.proofs.Claims.{capacity-largest, cost-largest, formulas-by-mode, terms-limits}
 use Rattle.account.proofs.Claims.{forwarded-step-takes-cost, refused-methods-rest, refused-step-keeps, refused-step-tells, short-step-tops-up, step-answers, step-is-top-up-and-debit, told-apart, valid-within}
@@ -135,6 +136,8 @@ demand-2 =
       figures = figures;
       octets-read = reads-back;
       octets-written = writes-back;
+      fields-read = field-reads-back;
+      fields-spelled = field-is-spelled;
     }
 
 pub demand-3 : Demand3

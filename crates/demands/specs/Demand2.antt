@@ -2,6 +2,7 @@
 -- that states it; here are gathered the readings of these definitions that document 01 and document 02's Q-3 settle by themselves, and
 -- the round trips. Proved in proofs/Demands.antt.
 use Rattle.octets.specs.Claims.{ReadsBack, WritesBack}
+use Rattle.fields.specs.Claims.{FieldReadsBack, FieldSpelled}
 use Rattle.frame.specs.Claims.{LengthLimits, PayloadLength}
 use Rattle.terms.specs.Claims.{FormulasByMode, CapacityLargest, CostLargest, TermsLimits}
 use Rattle.account.specs.Claims.{ValidLimits, ForwardedStepTakesCost, StepIsTopUpAndDebit, RefusedMethodsRest}
@@ -85,3 +86,6 @@ pub record Demand2 : Type 0 where
   -- numbers in octets ("What the box covers")
   pub octets-read : ReadsBack
   pub octets-written : WritesBack
+  -- tagged fields ("The configuration image"; "The replay program")
+  pub fields-read : FieldReadsBack
+  pub fields-spelled : FieldSpelled
