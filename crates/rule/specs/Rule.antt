@@ -83,7 +83,7 @@ rulePast p past steps = final (ruleOfAccount p) past steps
 
 -- ---- the claims
 
--- the allowance by mode: in modes 2 and 3 with the greater Smax (Q-3). What frames cost is in account's FormulasByMode
+-- the allowance by mode: in modes 2 and 3 with the greater Smax (Q-3). What frames cost is in terms' FormulasByMode
 abbrev pub AllowanceByMode : Type 0
 AllowanceByMode =
     (s k j since : ℕ)
