@@ -27,10 +27,11 @@ loaded p = accountOf p (capacity p) 0
 unfoldable pub valid : Account → Bool
 valid a = inLimits (termsOf a) && leb (a .credit) (capacity (termsOf a))
 
--- the credit topped up to time t: what the elapsed time adds to it, never above `full`; and never above the capacity
+-- the credit topped up to time t: what the elapsed time adds to it, never above `full`
 unfoldable pub creditUpTo : Account → ℕ → ℕ → ℕ
 creditUpTo a full t = min full (a .credit + rate (termsOf a) * (t - a .last))
 
+-- the same, never above the capacity
 abbrev pub creditAt : Account → ℕ → ℕ
 creditAt a t = creditUpTo a (capacity (termsOf a)) t
 

@@ -81,7 +81,7 @@ impl Account {
     }
 
     // The account brought to a time that is not before the last, with a credit of at most `full`. An account at capacity
-    // has no room for a refill: the time alone is stored.
+    // has no room for a refill: it keeps its credit, and the time is stored.
     fn brought_to(self, full: u32, time: u64) -> Account
         requires { ⌜ self .last ≤ time ⌝ }
         ensures { λ r. ⌜ r ≡ holding self (creditUpTo self full time) time ⌝ }

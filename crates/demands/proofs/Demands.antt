@@ -1,8 +1,10 @@
 -- The three demands, from the claims that they gather. Assumes nothing.
+use Rattle.lists.proofs.Claims.{picked-answers}
 use Rattle.octets.proofs.Claims.{reads-back, writes-back}
+use Rattle.rows.proofs.Claims.{rows-in-use}
 use Rattle.fields.proofs.Claims.{field-reads-back, field-is-spelled}
 use Rattle.frame.proofs.Claims.{length-limits, payload-length, reading-answers, reading-refused}
-use Rattle.terms.proofs.Claims.{capacity-largest, cost-largest, formulas-by-mode, terms-limits}
+use Rattle.terms.proofs.Claims.{capacity-largest, cost-largest, formulas-by-mode, terms-limits, checked-methods}
 use Rattle.account.proofs.Claims.{forwarded-step-takes-cost, refused-methods-rest, refused-step-keeps, refused-step-tells, short-step-tops-up, step-answers, step-is-top-up-and-debit, told-apart, valid-within}
 use Rattle.rule.proofs.Bench.{bench-table}
 use Rattle.rule.proofs.Bucket.{rule-read}
@@ -113,11 +115,13 @@ figures =
       lengths = length-limits;
       payload = payload-length;
       terms = terms-limits;
+      checked = checked-methods;
       valid = valid-within;
       formulas = formulas-by-mode;
       capacity = capacity-largest;
       cost = cost-largest;
       sizes = sizes-within-smax;
+      rows-in-use = rows-in-use;
       links-refused = link-refused;
       links-accepted = link-accepted;
       image = image-figures;
@@ -151,6 +155,7 @@ demand-3 =
       meant-limits = meant-limits;
       isolation = isolation;
       isolation-of-fresh-tables = isolation-of-fresh-tables;
+      picked-answers = picked-answers;
       rule-read = rule-read;
       allowance-by-mode = allowance-by-mode;
       rule-of-steps = rule-of-steps;

@@ -2,9 +2,10 @@
 -- that states it; here are gathered the readings of these definitions that document 01 and document 02's Q-3 settle by themselves, and
 -- the round trips. Proved in proofs/Demands.antt.
 use Rattle.octets.specs.Claims.{ReadsBack, WritesBack}
+use Rattle.rows.specs.Claims.{RowsInUse}
 use Rattle.fields.specs.Claims.{FieldReadsBack, FieldSpelled}
 use Rattle.frame.specs.Claims.{LengthLimits, PayloadLength}
-use Rattle.terms.specs.Claims.{FormulasByMode, CapacityLargest, CostLargest, TermsLimits}
+use Rattle.terms.specs.Claims.{FormulasByMode, CapacityLargest, CostLargest, TermsLimits, CheckedMethods}
 use Rattle.account.specs.Claims.{ValidLimits, ForwardedStepTakesCost, StepIsTopUpAndDebit, RefusedMethodsRest}
 use Rattle.rule.specs.Bench.{BenchTable}
 use Rattle.tables.specs.Claims.{FindsFirst, FindsNone, SizesWithinSmax, LinkRefused, LinkAccepted}
@@ -65,11 +66,13 @@ pub record Figures : Type 0 where
   pub lengths : LengthLimits
   pub payload : PayloadLength
   pub terms : TermsLimits
+  pub checked : CheckedMethods
   pub valid : ValidLimits
   pub formulas : FormulasByMode
   pub capacity : CapacityLargest
   pub cost : CostLargest
   pub sizes : SizesWithinSmax
+  pub rows-in-use : RowsInUse
   pub links-refused : LinkRefused
   pub links-accepted : LinkAccepted
   pub image : ImageFigures

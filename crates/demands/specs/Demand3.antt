@@ -6,6 +6,7 @@ use mathlib.Core.List.{List, [], _∷_, map, reverse, List·Memᴰ}
 use mathlib.Core.Logic.{_↔_}
 use mathlib.Core.Path.{_≡_}
 use lib.ListN.{length, getD, set, take, replicate}
+use Rattle.lists.specs.Claims.{PickedAnswers}
 use Rattle.lists.specs.Lists.{only, answersTo}
 use Rattle.terms.specs.Terms.{cost}
 use Rattle.rule.specs.Bucket.{lastTime, FromEach, RuleRead}
@@ -113,6 +114,7 @@ pub record Demand3 : Type 0 where
   pub meant-limits : MeantLimits
   pub isolation : Isolation
   pub isolation-of-fresh-tables : IsolationOfFreshTables
+  pub picked-answers : PickedAnswers
   pub rule-read : RuleRead
   pub allowance-by-mode : AllowanceByMode
   pub rule-of-steps : RuleOfSteps

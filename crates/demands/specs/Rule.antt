@@ -80,7 +80,7 @@ ruleCode s past f =
     if not (eqb (filterCode s f) 0) then filterCode s f
     else ruleArrived (imageTerms s (accountNamed s (linkRow s f))) (reachedIn s past (accountNamed s (linkRow s f))) (length (f .octets)) (f .time) .code
 
--- the codes of a list of calls, each with those before it, from the start of a history
+-- the rule as a machine whose state is the past, and the codes of a history by it
 abbrev pub ruleOfCalls : List ℕ → Machine (List Call) Call ℕ
 ruleOfCalls s = byCalls (ruleCode s)
 

@@ -11,7 +11,8 @@ use Rattle.fields.specs.Fields.{fieldOf, tagAndLength, fieldAt, standsAt
 abbrev pub FieldReadsBack : Type 0
 FieldReadsBack =
     (before after bytes : List ℕ) (tag : ℕ) → length bytes < 2 ^ 16
-    → (fieldAt (before ++ fieldOf tag bytes ++ after) (length before) ≡ record { headed = true; tag = tag; size = length bytes; whole = true })
+    → (fieldAt (before ++ fieldOf tag bytes ++ after) (length before)
+    ≡ record { headed = true; tag = tag; size = length bytes; whole = true })
     × (octetsAt (length bytes) (before ++ fieldOf tag bytes ++ after) (length before + tagAndLength) ≡ bytes)
 
 -- the octets of a field that stands whole are its tag, its length and its data spelled

@@ -133,8 +133,8 @@ pub(crate) fn next_code(image: &[u8], accounts: u16, links: u16) -> u8
     field_code(field, order, data_octets(field.tag), full, good)
 }
 
-// Whether the field after so many accounts is an account that passes every check. Such a field stands whole, so its code
-// is not asked.
+// Whether the field after so many accounts is an account that passes every check: it stands whole and its values keep
+// their limits.
 pub(crate) fn good_account(image: &[u8], i: u16) -> bool
     requires { ⌜ i < maxAccounts ⌝ }
     ensures { λ r. ⌜ r ≡ goodField (now (image .entry)) accountTag i 0 ⌝ }

@@ -1,3 +1,4 @@
+pub mod Claims
 pub mod History
 pub mod Leading
 pub mod Lists

@@ -1,4 +1,5 @@
 pub mod Choice
+pub mod Claims
 pub mod History
 pub mod Leading
 pub mod Lists

@@ -11,7 +11,7 @@ mod records;
 
 use rows::Found;
 
-// Octets of a row: link number (2), SkewMax in microseconds (4).
+// Octets of SkewMax, and of a row: link number (2), SkewMax in microseconds (4).
 const SKEW_OCTETS: u8 = 4;
 
 pub const ROW_OCTETS: usize = rows::NUMBER_OCTETS + SKEW_OCTETS as usize;

@@ -1,4 +1,5 @@
 -- Request Q-1 whole. Assumes nothing.
+use Rattle.lists.proofs.Claims.{picked-answers}
 use Rattle.receive.proofs.Claims.{possible-answers, answers-apart, refused-keeps, unknown-exactly, row-is-first, row-is-nowhere, rows-beyond, changes-own-record, stamp-and-number-kept, by-own-record}
 use Rattle.sequence.proofs.Claims.{pass-table}
 use Rattle.receptions.specs.Claims.{ReceivingEnd}
@@ -30,4 +31,5 @@ receiving-end =
       one-copy-each = one-copy-each;
       alone-delivered = alone-delivered;
       apart = receptions-apart;
+      picked-answers = picked-answers;
     }

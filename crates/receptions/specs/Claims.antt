@@ -3,6 +3,7 @@ use Prim.Native.Nat.{ℕ}
 use mathlib.Core.List.{List}
 use mathlib.Core.Path.{_≡_}
 use lib.ListN.{length}
+use Rattle.lists.specs.Claims.{PickedAnswers}
 use Rattle.receive.specs.declared.Arrival.{Arrival}
 use Rattle.sequence.specs.Claims.{PassTable}
 use Rattle.receive.specs.Claims.{AnswersApart, PossibleAnswers, RefusedKeeps, UnknownExactly, RowIsFirst, RowIsNowhere, RowsBeyondUnread, ChangesOwnRecord, StampAndNumberKept, ByOwnRecord}
@@ -37,3 +38,4 @@ pub record ReceivingEnd : Type 0 where
   pub one-copy-each : OneCopyEach
   pub alone-delivered : AloneDelivered
   pub apart : ReceptionsApart
+  pub picked-answers : PickedAnswers

@@ -71,7 +71,7 @@ ruleBy rows past f (At j) = ruleOn (skewIn rows j) (ofLink (f .link) past) f
 unfoldable pub ruleAnswer : List ℕ → ℕ → List Answered → Arrival → Reception
 ruleAnswer rows words past f = ruleBy rows past f (rowFound rows words (f .link))
 
--- the answers to a list of frames, each with those before it, from the start of a history
+-- the rule as a machine whose state is the past, with its answers, and the answers of a history by it
 abbrev pub ruleOfFrames : List ℕ → ℕ → Machine (List Answered) Arrival Answered
 ruleOfFrames rows words = byAnswers (λ past f. answeredOf f (ruleAnswer rows words past f))
 

@@ -36,7 +36,7 @@ rowPlace r i = r .first + r .step * i
 abbrev pub rowOctets : ℕ → Rows → ℕ → List ℕ
 rowOctets w r i = octetsAt w (r .octets) (rowPlace r i)
 
--- the number that row i begins with
+-- octets of a row's number, and the number that row i begins with
 abbrev pub numberOctets : ℕ
 numberOctets = 2
 
@@ -47,7 +47,7 @@ rowNumber r i = numberAt numberOctets (r .octets) (rowPlace r i)
 abbrev pub inUse : ℕ → ℕ → ℕ → ℕ
 inUse w octets count = min count (octets / w)
 
--- the first of n rows that has number x: n where none has it
+-- row i has another number than x; the first of n rows that has it, n where none has it; and that row as it is answered
 abbrev pub otherNumber : Rows → ℕ → ℕ → Bool
 otherNumber r x i = not (eqb (rowNumber r i) x)
 

@@ -60,7 +60,7 @@ fn refused(code: u8, account: Account) -> Decision
 }
 
 // What is decided of a frame for its link and account, `used` accounts being in use: 10, then 5, 6 and 7, then the
-// policing step. The capacity is asked once, and handed on.
+// last part of the policing step, `judge`. The capacity is asked once, and handed on.
 fn decide(link: Link, used: usize, account: Account, octets: usize, ingress: Ingress) -> Decision
     requires { ⌜ lengthCode octets ≡ 0 ⌝ }
     ensures { λ r. ⌜ decisionOf r ≡ decided link used account octets (ingress .port) (ingress .time) ⌝ }

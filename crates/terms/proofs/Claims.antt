@@ -4,8 +4,10 @@ use mathlib.Core.Path.{_≡_, refl, ap}
 use native.Mathlib.Nat.{le-trans, add-zero}
 use native.Mathlib.Omega.{arith}
 use lib.Dec.{lit≤}
-use Rattle.terms.specs.Terms.{inLimits, bag, added, charge, rate, capacity, byOctets, charged, cost}
-use Rattle.terms.specs.Claims.{FormulasByMode, CapacityLargest, CostLargest, TermsLimits}
+use borrow.Author.Tests.{eq-eqb, ne-eqb}
+use Rattle.lists.proofs.Tests.{split}
+use Rattle.terms.specs.Terms.{inLimits, bag, added, charge, rate, capacity, byOctets, charged, cost, checkedCapacity, checkedCost}
+use Rattle.terms.specs.Claims.{FormulasByMode, CapacityLargest, CostLargest, TermsLimits, CheckedMethods}
 use Rattle.terms.proofs.Limits.{limits, in-limits-by, added-none, capacity-with, capacity-high, cost-high}
 
 pub formulas-by-mode : FormulasByMode
@@ -31,4 +33,13 @@ pub terms-limits : TermsLimits
 terms-limits p = (
   λ e. let l = limits p e in (l .smax-low, l .smax-high, l .k-high, l .jitter-high, l .mode-high),
   λ h. in-limits-by p (record { smax-low = h .0; smax-high = h .1; k-high = h .2; jitter-high = h .3; mode-high = h .4 }),
+)
+
+pub checked-methods : CheckedMethods
+unfolding checkedCapacity checkedCost
+checked-methods p n = (
+  λ e. simp e,
+  λ e z. simp (e, eq-eqb _ _ z),
+  λ e. (simp e, simp e),
+  λ h. split (inLimits p) (λ e. simp (e, ne-eqb _ _ h)) (λ e. simp e),
 )

@@ -1,11 +1,12 @@
 -- What holds of an account's values alone: the formulas of each mode, the largest capacity and cost, and the limits (document 01,
 -- "Accounts and links" and "Credit, in whole units"; document 02, Q-3); proved in proofs/Claims.antt.
 use Prim.Native.Nat.{ℕ, _+_, _*_, _≤_}
-use mathlib.Core.Bool.{true}
+use mathlib.Core.Bool.{true, false}
 use mathlib.Core.Logic.{_↔_}
 use mathlib.Core.Path.{_≡_}
 use mathlib.Core.List.{[], _∷_, map}
-use Rattle.terms.specs.Terms.{termsWith, inLimits, bag, rate, capacity, cost}
+use Rattle.frame.specs.Frame.{lengthCode}
+use Rattle.terms.specs.Terms.{termsWith, inLimits, bag, rate, capacity, cost, checkedCapacity, checkedCost}
 use Rattle.terms.specs.declared.Terms.{Terms}
 
 -- the formulas of a mode, given the octets that count as Smax and those that count for a frame of n
@@ -46,3 +47,12 @@ abbrev pub TermsLimits : Type 0
 TermsLimits =
     (p : Terms)
     → (inLimits p ≡ true) ↔ ((64 ≤ p .smax) × (p .smax ≤ 1518) × (p .k ≤ 7) × (p .jitter ≤ 10000) × (p .mode ≤ 3))
+
+-- what the methods give: the formulas' values within limits and of a frame's size, else 0
+abbrev pub CheckedMethods : Type 0
+CheckedMethods =
+    (p : Terms) (n : ℕ)
+    → (inLimits p ≡ true → checkedCapacity p ≡ capacity p)
+    × (inLimits p ≡ true → lengthCode n ≡ 0 → checkedCost p n ≡ cost p n)
+    × (inLimits p ≡ false → (checkedCapacity p ≡ 0) × (checkedCost p n ≡ 0))
+    × ((lengthCode n ≡ 0 → ⊥) → checkedCost p n ≡ 0)

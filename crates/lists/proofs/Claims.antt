@@ -1,0 +1,17 @@
+-- What the picked answers are. Assumes nothing.
+use Prim.Native.Nat.{ℕ}
+use mathlib.Core.Bool.{Bool}
+use mathlib.Core.List.{List, [], _∷_, map}
+use mathlib.Core.Path.{_≡_, refl, ap}
+use Rattle.lists.specs.Lists.{only, answersTo}
+use Rattle.lists.specs.Claims.{PickedAnswers}
+use Rattle.lists.proofs.Tests.{split}
+
+picked : (p : ℕ → Bool) (f : ℕ → ℕ) (h : List ℕ) → answersTo p h (map f h) ≡ map f (only p h)
+unfolding only answersTo
+picked p f [] = refl
+picked p f (c ∷ h) = split (p c) (λ e. simp e (ap (_∷_ (f c)) (picked p f h))) (λ e. simp e (picked p f h))
+
+pub picked-answers : PickedAnswers
+unfolding only answersTo
+picked-answers = (picked, refl, refl)
