@@ -16,7 +16,7 @@ use Rattle.fields.specs.declared.Field.{Field}
 use Rattle.layout.specs.Layout.{headTag, accountTag, linkTag, endTag, headOctets, fieldPlace, imageLength, maxAccounts, maxLinks}
 use Rattle.image.specs.Read.{fieldCode, headGood, headCode, accountFields, linkFields, inOrder, dataOctets, isFull, valuesGood, tagAt, nextCode, goodField, accountCount, linkCount, readImage}
 use Rattle.image.specs.declared.Loaded.{Loaded}
-use Rattle.image.proofs.Checks.{code-short, code-order, code-length, code-cut, code-full, code-bad, values-account, values-link, full-account, full-link}
+use Rattle.image.proofs.Checks.{code-short, code-order, code-length, code-cut, code-full, code-bad, full-account, full-link}
 use Rattle.image.proofs.Reading.{by-end, by-reading}
 
 -- ---- a field that passes every check
@@ -106,20 +106,26 @@ module _ (s : List ℕ) (tag n m : ℕ) (e : goodField s tag n m ≡ true) where
   unfolding goodField
   good-code = eqb-true _ _ (both (eqb (tagAt s n m) tag) (eqb (nextCode s n m) 0) e .1)
 
+  pub good-passes : Passed s (fieldPlace n m) (inOrder tag n m) (dataOctets tag) (isFull tag n m) (valuesGood s tag n m)
+  good-passes = rw good-tag at (next-passes s n m good-code)
+
 pub good-by : (s : List ℕ) (tag n m : ℕ) → tagAt s n m ≡ tag → nextCode s n m ≡ 0 → goodField s tag n m ≡ true
 unfolding goodField
 good-by s tag n m t z = ap₂ _&&_ (eq-eqb _ _ t) (eq-eqb _ _ z)
 
-module _ (s : List ℕ) (i : ℕ) (e : goodField s accountTag i 0 ≡ true) where
-  pub good-account : accountGood (accountFields s) i ≡ true
-  good-account =
-      values-account s (tagAt s i 0) i 0 (good-tag s accountTag i 0 e) ∙ next-passes s i 0 (good-code s accountTag i 0 e) .sound
+pub good-account : (s : List ℕ) (i : ℕ) → goodField s accountTag i 0 ≡ true → accountGood (accountFields s) i ≡ true
+unfolding valuesGood
+good-account s i e = good-passes s accountTag i 0 e .sound
 
 module _ (s : List ℕ) (n j : ℕ) (e : goodField s linkTag n j ≡ true) where
   pub good-link : linkGood (accountFields s) (linkFields s n) n j ≡ true
-  good-link =
-      let t : tagAt s n j ≡ linkTag = good-tag s linkTag n j e in
-      values-link s (tagAt s n j) n j (λ a. omega arith) t ∙ next-passes s n j (good-code s linkTag n j e) .sound
+  unfolding valuesGood
+  good-link = good-passes s linkTag n j e .sound
+
+  -- no link before the first account
+  pub link-first : n ≡ 0 → ⊥
+  unfolding inOrder
+  link-first z = false≢true (rw z at (good-passes s linkTag n j e .ordered))
 
 -- ---- the accounts and links that were counted
 pub counted-account : (s : List ℕ) (i : ℕ) → i < accountCount s → goodField s accountTag i 0 ≡ true
@@ -206,10 +212,7 @@ module _ (s : List ℕ) (n m : ℕ) (an : n ≡ accountCount s) (am : m ≡ link
       (λ q. eqb-true _ _ q)
       (λ q.
       let d : (m ≡ 0 → ⊥) = eqb-false m 0 q in
-      let g : goodField s linkTag n 0 ≡ true = counted-link s n 0 (omega arith) in
-      let t : tagAt s n 0 ≡ linkTag = good-tag s linkTag n 0 g in
-      let a : tagAt s n 0 ≡ accountTag = none-first (tagAt s n 0) n 0 (next-passes s n 0 (good-code s linkTag n 0 g) .ordered) e in
-      absurd (omega arith))
+      absurd (link-first s n 0 (counted-link s n 0 (omega arith)) e))
 
   not-account : m ≡ 0 → tagAt s n m ≡ accountTag → ⊥
   unfolding accountCount

@@ -13,7 +13,7 @@ use Rattle.tables.specs.Rules.{accountGood, linkGood}
 use Rattle.fields.specs.Fields.{fieldAt}
 use Rattle.fields.specs.declared.Field.{Field}
 use Rattle.layout.specs.Layout.{headTag, headOctets, accountTag, linkTag, endTag, edition, fieldPlace, maxAccounts, maxLinks, constantGood}
-use Rattle.image.specs.Read.{fieldCode, headGood, headCode, accountFields, linkFields, inOrder, dataOctets, isFull, valuesGood, tagAt, nextCode, goodField}
+use Rattle.image.specs.Read.{fieldCode, headGood, headCode, accountFields, linkFields, inOrder, dataOctets, isFull, valuesGood, nextCode}
 
 -- ---- the code of a field
 module _ (f : Field) (order : Bool) (size : ℕ) (full good : Bool) where
@@ -143,15 +143,3 @@ next-is s n m at f e q order size full good r o u g d v =
     let p : f ≡ fieldAt s (fieldPlace n m) = q ∙ ap (fieldAt s) e in
     v ∙ rw (o, u, g, d)
     (ap (λ (x : Field). fieldCode x (inOrder (x .tag) n m) (dataOctets (x .tag)) (isFull (x .tag) n m) (valuesGood s (x .tag) n m)) p)
-
-module _ (s : List ℕ) (n m at tag : ℕ) (e : at ≡ fieldPlace n m) (t : tag ≡ getD s at 0) where
-  pub tag-is : tag ≡ tagAt s n m
-  tag-is = t ∙ ap (λ (i : ℕ). getD s i 0) e
-
-  pub field-other : (x : ℕ) → (tag ≡ x → ⊥) → false ≡ goodField s x n m
-  unfolding goodField
-  field-other x d = simp (← tag-is, ne-eqb _ _ d)
-
-  pub field-tested : (x : ℕ) → tag ≡ x → (r : ℕ) → r ≡ nextCode s n m → eqb r 0 ≡ goodField s x n m
-  unfolding goodField
-  field-tested x q r v = ap (λ (y : ℕ). eqb y 0) v ∙ simp (← tag-is, eq-eqb _ _ q)

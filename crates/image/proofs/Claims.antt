@@ -4,21 +4,19 @@ use mathlib.Core.Bool.{Bool, true, false, not, _||_, false≢true}
 use mathlib.Core.List.{List, [], _∷_, List·Memᴰ, List·Memᴰ·head, List·Memᴰ·tail}
 use mathlib.Core.Path.{_≡_, refl, sym, ap, _∙_}
 use native.Mathlib.Omega.{arith}
-use lib.Dec.{leb, eqb}
+use lib.Dec.{eqb}
 use lib.ListN.{length, getD}
-use borrow.Author.Tests.{leb-false, eqb-true, eqb-false}
+use borrow.Author.Tests.{leb-false, ne-eqb, eqb-true}
 use Rattle.lists.specs.Choice.{if_then_else_}
-use Rattle.octets.specs.Numbers.{numberAt}
 use Rattle.lists.proofs.Tests.{split}
 use Rattle.tables.specs.Rows.{accountOctets, linkOctets}
 use Rattle.lists.proofs.Leading.{leading-fails}
 use Rattle.fields.specs.Fields.{tagAndLength, fieldAt}
 use Rattle.fields.specs.declared.Field.{Field}
-use Rattle.layout.specs.Layout.{headTag, accountTag, linkTag, endTag, headSize, accountSize, linkSize, headOctets, fieldPlace, imageLength, maxAccounts, maxLinks, longestImage}
+use Rattle.layout.specs.Layout.{headTag, accountTag, linkTag, headSize, accountSize, linkSize, headOctets, fieldPlace, imageLength, maxAccounts, maxLinks, longestImage}
 use Rattle.image.specs.Read.{fieldCode, headGood, headCode, inOrder, dataOctets, isFull, valuesGood, tagAt, nextCode, goodField, accountCount, linkCount, readEnd, readImage}
 use Rattle.image.specs.Claims.{ReadCodes, AcceptedEnds, walked, ReadFieldByField}
-use Rattle.image.proofs.Accepted.{Accepted, accepted, head-passes, next-passes, good-tag, good-code, counted-account, counted-link, some-accounts, some-links, end-tag}
-use Rattle.image.proofs.Checks.{order-first, order-end, octets-account, octets-link, full-account, full-link}
+use Rattle.image.proofs.Accepted.{Accepted, accepted, head-passes, good-passes, link-first, counted-account, counted-link, some-accounts, some-links, end-tag}
 use Rattle.image.proofs.Reading.{few-accounts, few-links, few-read, by-end, by-reading}
 
 -- ---- codes
@@ -121,22 +119,19 @@ place-link n m = omega arith
 module _ (s : List ℕ) (z : headCode s ≡ 0) where
   -- the field behind the accounts that were counted starts inside the image, or at its end
   accounts-inside : (n : ℕ) → n ≤ accountCount s → fieldPlace n 0 ≤ length s
+  unfolding dataOctets
   accounts-inside zero h = let p = place-head in let w = head-passes s z .whole in omega arith
   accounts-inside (suc n) h =
-      let g : goodField s accountTag n 0 ≡ true = counted-account s n (omega arith) in
-      let o : accountOctets ≡ dataOctets (tagAt s n 0) = octets-account (tagAt s n 0) (good-tag s accountTag n 0 g) in
-      let w : fieldPlace n 0 + tagAndLength + dataOctets (tagAt s n 0) ≤ length s = next-passes s n 0 (good-code s accountTag n 0 g) .whole in
+      let w : fieldPlace n 0 + tagAndLength + accountOctets ≤ length s = good-passes s accountTag n 0 (counted-account s n (omega arith)) .whole in
       let p = place-account n in
       omega arith
 
   -- and so does the field behind the links
   links-inside : (n m : ℕ) → n ≤ accountCount s → m ≤ linkCount s n → fieldPlace n m ≤ length s
+  unfolding dataOctets
   links-inside n zero k h = accounts-inside n k
   links-inside n (suc m) k h =
-      let g : goodField s linkTag n m ≡ true = counted-link s n m (omega arith) in
-      let t : tagAt s n m ≡ linkTag = good-tag s linkTag n m g in
-      let o : linkOctets ≡ dataOctets (tagAt s n m) = octets-link (tagAt s n m) (λ a. omega arith) t in
-      let w : fieldPlace n m + tagAndLength + dataOctets (tagAt s n m) ≤ length s = next-passes s n m (good-code s linkTag n m g) .whole in
+      let w : fieldPlace n m + tagAndLength + linkOctets ≤ length s = good-passes s linkTag n m (counted-link s n m (omega arith)) .whole in
       let p = place-link n m in
       omega arith
 
@@ -173,29 +168,19 @@ not-good b h = split b (λ e. absurd (h e)) (λ e. e)
 -- an account is good only before the links, and while there is room for one; a link only behind an account, and while there is room
 module _ (s : List ℕ) (n m : ℕ) where
   account-room : goodField s accountTag n m ≡ true → n < maxAccounts
-  account-room g =
-      leb-false _ _ (full-account (tagAt s n m) n m (good-tag s accountTag n m g) ∙ next-passes s n m (good-code s accountTag n m g) .few)
+  unfolding isFull
+  account-room g = leb-false _ _ (good-passes s accountTag n m g .few)
 
   link-room : goodField s linkTag n m ≡ true → m < maxLinks
-  link-room g =
-      let t : tagAt s n m ≡ linkTag = good-tag s linkTag n m g in
-      leb-false _ _ (full-link (tagAt s n m) n m (λ a. omega arith) t ∙ next-passes s n m (good-code s linkTag n m g) .few)
-
-  link-behind : goodField s linkTag n m ≡ true → n ≡ 0 → ⊥
-  link-behind g z =
-      let t : tagAt s n m ≡ linkTag = good-tag s linkTag n m g in
-      let a : tagAt s n m ≡ accountTag = eqb-true _ _ (order-first (tagAt s n m) n m z ∙ next-passes s n m (good-code s linkTag n m g) .ordered) in
-      omega arith
+  unfolding isFull
+  link-room g = leb-false _ _ (good-passes s linkTag n m g .few)
 
   account-before : goodField s accountTag n m ≡ true → (n ≡ 0 → ⊥) → m ≡ 0
+  unfolding inOrder
   account-before g d =
       split (eqb m 0)
       (λ q. eqb-true _ _ q)
-      (λ q.
-      let t : tagAt s n m ≡ accountTag = good-tag s accountTag n m g in
-      let e : tagAt s n m ≡ endTag =
-      eqb-true _ _ (order-end (tagAt s n m) n m d (λ l. omega arith) (eqb-false _ _ q) ∙ next-passes s n m (good-code s accountTag n m g) .ordered) in
-      absurd (omega arith))
+      (λ q. absurd (false≢true (rw (ne-eqb _ _ d, q) at (good-passes s accountTag n m g .ordered))))
 
 -- what was counted ends where the test fails
 accounts-end : (s : List ℕ) → goodField s accountTag (accountCount s) 0 ≡ true → ⊥
@@ -217,7 +202,7 @@ module _ (s : List ℕ) where
   no-account : (j : ℕ) → j ≤ m → goodField s accountTag n j ≡ true → ⊥
   no-account zero h g = accounts-end s g
   no-account (suc j) h g =
-      let b : (n ≡ 0 → ⊥) = link-behind s n j (counted-link s n j (omega arith)) in
+      let b : (n ≡ 0 → ⊥) = link-first s n j (counted-link s n j (omega arith)) in
       let e : suc j ≡ 0 = account-before s n (suc j) g b in
       omega arith
 

@@ -14,10 +14,10 @@ use Rattle.tables.specs.Rules.{accountGood, linkGood}
 use Rattle.lists.proofs.Leading.{leading-zero, leading-stop, leading-is}
 use Rattle.fields.specs.Fields.{tagAndLength, lengthAt, fieldAt, standsAt}
 use Rattle.fields.proofs.Fields.{stands-by, stands-tag, stands-length, stands-whole}
-use Rattle.layout.specs.Layout.{headTag, accountTag, linkTag, endTag, edition, headOctets, headSize, accountSize, linkSize, fieldPlace, imageLength, maxAccounts, maxLinks, constantGood}
-use Rattle.image.specs.Read.{headGood, headCode, accountFields, linkFields, inOrder, dataOctets, isFull, valuesGood, tagAt, nextCode, goodField, accountCount, linkCount, readImage}
-use Rattle.image.proofs.Checks.{code-good, order-first, order-link, order-account, order-end, octets-account, octets-link, octets-end, full-account, full-link, full-end, values-account, values-link, values-end}
-use Rattle.image.proofs.Accepted.{good-by, good-tag, good-code, good-account, good-link, next-passes}
+use Rattle.layout.specs.Layout.{headTag, accountTag, linkTag, endTag, edition, headOctets, headSize, fieldPlace, imageLength, maxAccounts, maxLinks, constantGood}
+use Rattle.image.specs.Read.{headGood, headCode, accountFields, linkFields, inOrder, dataOctets, isFull, valuesGood, codeByTag, tagAt, nextCode, goodField, accountCount, linkCount, readImage}
+use Rattle.image.proofs.Checks.{code-good, order-link, order-end}
+use Rattle.image.proofs.Accepted.{good-by, good-tag, good-code, good-passes, link-first}
 use Rattle.image.proofs.Reading.{end-accepted, head-passed}
 
 -- ---- the octets of a field that are there
@@ -45,119 +45,88 @@ unfolding headCode
 head-code-by s l t n g =
     sym (code-good (fieldAt s 0) (eqb (getD s 0 0) headTag) headOctets false (headGood s) (headed-by s 0 (omega arith)) (ap not (eq-eqb _ _ t)) n (whole-by s 0 (omega arith)) refl g)
 
--- ---- a later field, by its tag
-module _ (s : List ℕ) (n m tag size : ℕ) (t : tagAt s n m ≡ tag) (v : numberAt 2 s (fieldPlace n m + 1) ≡ size) (l : fieldPlace n m + tagAndLength + size ≤ length s)
-    (o : inOrder (tagAt s n m) n m ≡ true) (z : size ≡ dataOctets (tagAt s n m)) (f : isFull (tagAt s n m) n m ≡ false) (g : valuesGood s (tagAt s n m) n m ≡ true) where
-  next-by : nextCode s n m ≡ 0
+-- ---- a later field, by its tag: where it stands whole, in order and not one too many, it is good exactly where its values are
+module _ (s : List ℕ) (tag n m : ℕ) where
+  field-passes : standsAt s (fieldPlace n m) tag (dataOctets tag) ≡ true → inOrder tag n m ≡ true → isFull tag n m ≡ false
+      → valuesGood s tag n m ≡ true → goodField s tag n m ≡ true
   unfolding nextCode
-  next-by =
-      sym (code-good (fieldAt s (fieldPlace n m)) (inOrder (tagAt s n m) n m) (dataOctets (tagAt s n m)) (isFull (tagAt s n m) n m) (valuesGood s (tagAt s n m) n m)
-      (headed-by s (fieldPlace n m) (omega arith)) (ap not o) (v ∙ z) (whole-by s (fieldPlace n m) (omega arith)) f g)
+  field-passes w o f g =
+      let t = stands-tag s (fieldPlace n m) tag (dataOctets tag) w in
+      let l = stands-length s (fieldPlace n m) tag (dataOctets tag) w in
+      let h = stands-whole s (fieldPlace n m) tag (dataOctets tag) w in
+      good-by s tag n m t
+      (ap (codeByTag s n m) t
+      ∙ sym (code-good (fieldAt s (fieldPlace n m)) (inOrder tag n m) (dataOctets tag) (isFull tag n m) (valuesGood s tag n m)
+      (headed-by s (fieldPlace n m) (omega arith)) (ap not o) l (whole-by s (fieldPlace n m) (omega arith)) f g))
+
+  good-stands : goodField s tag n m ≡ true → standsAt s (fieldPlace n m) tag (dataOctets tag) ≡ true
+  good-stands e =
+      let p = good-passes s tag n m e in
+      let w = p .whole in
+      stands-by s (fieldPlace n m) tag (dataOctets tag) (good-tag s tag n m e) (p .sized) (omega arith)
+
+  module _ (at : ℕ) (p : at ≡ fieldPlace n m) (b : Bool) (e : b ≡ standsAt s at tag (dataOctets tag)) where
+    there : b ≡ standsAt s (fieldPlace n m) tag (dataOctets tag)
+    there = e ∙ ap (λ (x : ℕ). standsAt s x tag (dataOctets tag)) p
+
+    field-unlike : not b ≡ true → false ≡ goodField s tag n m
+    field-unlike h =
+        split (goodField s tag n m) (λ g. absurd (false≢true (sym (not-true b h) ∙ there ∙ good-stands g))) (λ g. sym g)
+
+    field-valued : not b ≡ false → inOrder tag n m ≡ true → isFull tag n m ≡ false → (v : Bool) → v ≡ valuesGood s tag n m → v ≡ goodField s tag n m
+    field-valued h o f v q =
+        split v
+        (λ z. z ∙ sym (field-passes (sym there ∙ not-false b h) o f (sym q ∙ z)))
+        (λ z. split (goodField s tag n m) (λ g. q ∙ good-passes s tag n m g .sound ∙ sym g) (λ g. z ∙ sym g))
+
+account-ordered : (i : ℕ) → inOrder accountTag i 0 ≡ true
+unfolding inOrder
+account-ordered i = split (eqb i 0) (λ q. simp q) (λ q. simp q)
+
+link-ordered : (n j : ℕ) → 1 ≤ n → inOrder linkTag n j ≡ true
+link-ordered n j h = sym (order-link linkTag n j (λ q. omega arith) refl)
 
 module _ (s : List ℕ) where
-  pub account-passes : (i : ℕ) → tagAt s i 0 ≡ accountTag → numberAt 2 s (fieldPlace i 0 + 1) ≡ 6 → fieldPlace i 0 + accountSize ≤ length s
-      → i < maxAccounts → accountGood (accountFields s) i ≡ true → goodField s accountTag i 0 ≡ true
-  account-passes i t v l h g =
-      let x = tagAt s i 0 in
-      let o : inOrder x i 0 ≡ true =
-      split (eqb i 0)
-      (λ e. sym (order-first x i 0 (eqb-true _ _ e)) ∙ eq-eqb _ _ t)
-      (λ e. sym (order-account x i 0 (λ q. false≢true (sym e ∙ eq-eqb _ _ q)) (λ q. omega arith) refl) ∙ eq-eqb _ _ t) in
-      good-by s accountTag i 0 t
-      (next-by s i 0 accountTag 6 t v (omega arith) o (octets-account x t) (sym (full-account x i 0 t) ∙ lt-leb _ _ h) (sym (values-account s x i 0 t) ∙ g))
+  pub account-passes : (i : ℕ) → standsAt s (fieldPlace i 0) accountTag accountOctets ≡ true → i < maxAccounts
+      → accountGood (accountFields s) i ≡ true → goodField s accountTag i 0 ≡ true
+  unfolding dataOctets isFull valuesGood
+  account-passes i w h g = field-passes s accountTag i 0 w (account-ordered i) (lt-leb _ _ h) g
 
-  pub link-passes : (n j : ℕ) → 1 ≤ n → tagAt s n j ≡ linkTag → numberAt 2 s (fieldPlace n j + 1) ≡ 13 → fieldPlace n j + linkSize ≤ length s
-      → j < maxLinks → linkGood (accountFields s) (linkFields s n) n j ≡ true → goodField s linkTag n j ≡ true
-  link-passes n j p t v l h g =
-      let x = tagAt s n j in
-      let a : (x ≡ accountTag → ⊥) = λ q. omega arith in
-      let o : inOrder x n j ≡ true = sym (order-link x n j (λ q. omega arith) t) in
-      good-by s linkTag n j t
-      (next-by s n j linkTag 13 t v (omega arith) o (octets-link x a t) (sym (full-link x n j a t) ∙ lt-leb _ _ h) (sym (values-link s x n j a t) ∙ g))
+  pub link-passes : (n j : ℕ) → 1 ≤ n → standsAt s (fieldPlace n j) linkTag linkOctets ≡ true → j < maxLinks
+      → linkGood (accountFields s) (linkFields s n) n j ≡ true → goodField s linkTag n j ≡ true
+  unfolding dataOctets isFull valuesGood
+  link-passes n j p w h g = field-passes s linkTag n j w (link-ordered n j p) (lt-leb _ _ h) g
 
-  pub end-passes : (n m : ℕ) → 1 ≤ n → 1 ≤ m → tagAt s n m ≡ endTag → numberAt 2 s (fieldPlace n m + 1) ≡ 0 → fieldPlace n m + tagAndLength ≤ length s
-      → nextCode s n m ≡ 0
-  end-passes n m p q t v l =
-      let x = tagAt s n m in
-      let a : (x ≡ accountTag → ⊥) = λ y. omega arith in
-      let b : (x ≡ linkTag → ⊥) = λ y. omega arith in
-      let o : inOrder x n m ≡ true = sym (order-end x n m (λ y. omega arith) b (λ y. omega arith)) ∙ eq-eqb _ _ t in
-      next-by s n m endTag 0 t v (omega arith) o (octets-end x a b) (sym (full-end x n m a b)) (sym (values-end s x n m a b))
-
--- ---- an account or a link that stands whole is tested by its values alone
-module _ (s : List ℕ) (tag n m size : ℕ) (d : dataOctets (tagAt s n m) ≡ size) (e : goodField s tag n m ≡ true) where
-  good-stands : standsAt s (fieldPlace n m) tag size ≡ true
-  good-stands =
-      let p = next-passes s n m (good-code s tag n m e) in
-      let w = p .whole in
-      stands-by s (fieldPlace n m) tag size (good-tag s tag n m e) (p .sized ∙ d) (omega arith)
-
--- what stands not is no good field; what stands is one exactly where its values are good
-module _ (s : List ℕ) (tag n m size : ℕ) (b : Bool) (e : b ≡ standsAt s (fieldPlace n m) tag size)
-    (d : tagAt s n m ≡ tag → dataOctets (tagAt s n m) ≡ size) where
-  pub field-unlike : not b ≡ true → false ≡ goodField s tag n m
-  field-unlike h =
-      split (goodField s tag n m)
-      (λ g. absurd (false≢true (sym (not-true b h) ∙ e ∙ good-stands s tag n m size (d (good-tag s tag n m g)) g)))
-      (λ g. sym g)
-
-  module _ (h : not b ≡ false) where
-    stands : standsAt s (fieldPlace n m) tag size ≡ true
-    stands = sym e ∙ not-false b h
-
-    pub field-valued : (v : Bool) → (v ≡ true → goodField s tag n m ≡ true) → (goodField s tag n m ≡ true → v ≡ true) → v ≡ goodField s tag n m
-    field-valued v f g =
-        split v
-        (λ q. q ∙ sym (f q))
-        (λ q. split (goodField s tag n m) (λ w. absurd (false≢true (sym q ∙ g w))) (λ w. q ∙ sym w))
+  pub end-passes : (n m : ℕ) → 1 ≤ n → 1 ≤ m → standsAt s (fieldPlace n m) endTag 0 ≡ true → nextCode s n m ≡ 0
+  unfolding dataOctets isFull valuesGood
+  end-passes n m p q w =
+      good-code s endTag n m
+      (field-passes s endTag n m w (sym (order-end endTag n m (λ y. omega arith) (λ y. omega arith) (λ y. omega arith))) refl refl)
 
 module _ (s : List ℕ) (i at : ℕ) (p : at ≡ fieldPlace i 0) (b : Bool) (e : b ≡ standsAt s at accountTag accountOctets) where
-  at-place : b ≡ standsAt s (fieldPlace i 0) accountTag accountOctets
-  at-place = e ∙ ap (λ (x : ℕ). standsAt s x accountTag accountOctets) p
-
-  sized : tagAt s i 0 ≡ accountTag → dataOctets (tagAt s i 0) ≡ accountOctets
-  sized t = sym (octets-account _ t)
-
   pub account-unlike : not b ≡ true → false ≡ goodField s accountTag i 0
-  account-unlike = field-unlike s accountTag i 0 accountOctets b at-place sized
+  unfolding dataOctets
+  account-unlike = field-unlike s accountTag i 0 at p b e
 
   pub account-valued : not b ≡ false → i < maxAccounts → (v : Bool) → v ≡ accountGood (accountFields s) i → v ≡ goodField s accountTag i 0
-  account-valued h l v q =
-      let w = stands s accountTag i 0 accountOctets b at-place sized h in
-      let r = stands-whole s (fieldPlace i 0) accountTag accountOctets w in
-      field-valued s accountTag i 0 accountOctets b at-place sized h v
-      (λ z. account-passes s i (stands-tag s _ _ _ w) (stands-length s _ _ _ w) (omega arith) l (sym q ∙ z))
-      (λ z. q ∙ good-account s i z)
+  unfolding dataOctets isFull valuesGood
+  account-valued h l = field-valued s accountTag i 0 at p b e h (account-ordered i) (lt-leb _ _ l)
 
 module _ (s : List ℕ) (n j at : ℕ) (p : at ≡ fieldPlace n j) (b : Bool) (e : b ≡ standsAt s at linkTag linkOctets) where
-  at-link : b ≡ standsAt s (fieldPlace n j) linkTag linkOctets
-  at-link = e ∙ ap (λ (x : ℕ). standsAt s x linkTag linkOctets) p
-
-  sized-link : tagAt s n j ≡ linkTag → dataOctets (tagAt s n j) ≡ linkOctets
-  sized-link t = sym (octets-link _ (λ a. omega arith) t)
-
   pub link-unlike : not b ≡ true → false ≡ goodField s linkTag n j
-  link-unlike = field-unlike s linkTag n j linkOctets b at-link sized-link
+  unfolding dataOctets
+  link-unlike = field-unlike s linkTag n j at p b e
 
   pub link-valued : not b ≡ false → 1 ≤ n → j < maxLinks → (v : Bool) → v ≡ linkGood (accountFields s) (linkFields s n) n j → v ≡ goodField s linkTag n j
-  link-valued h o l v q =
-      let w = stands s linkTag n j linkOctets b at-link sized-link h in
-      let r = stands-whole s (fieldPlace n j) linkTag linkOctets w in
-      field-valued s linkTag n j linkOctets b at-link sized-link h v
-      (λ z. link-passes s n j o (stands-tag s _ _ _ w) (stands-length s _ _ _ w) (omega arith) l (sym q ∙ z))
-      (λ z. q ∙ good-link s n j z)
+  unfolding dataOctets isFull valuesGood
+  link-valued h o l = field-valued s linkTag n j at p b e h (link-ordered n j o) (lt-leb _ _ l)
 
 -- no link before the first account
 pub links-none : (s : List ℕ) (n : ℕ) → n ≡ 0 → 0 ≡ linkCount s n
 unfolding linkCount
 links-none s n z =
     sym (leading-stop (λ j. goodField s linkTag n j) 0 maxLinks (leading-zero _)
-    (split (goodField s linkTag n 0)
-    (λ e.
-    let t : tagAt s n 0 ≡ linkTag = good-tag s linkTag n 0 e in
-    let o : tagAt s n 0 ≡ accountTag = eqb-true _ _ (order-first (tagAt s n 0) n 0 z ∙ next-passes s n 0 (good-code s linkTag n 0 e) .ordered) in
-    absurd (omega arith))
-    (λ e. e))
+    (split (goodField s linkTag n 0) (λ e. absurd (link-first s n 0 e z)) (λ e. e))
     (omega arith))
 
 -- ---- a whole image

@@ -113,9 +113,6 @@ module _ (f : ℕ → List ℕ) (w : ℕ) (each : (i : ℕ) → length (f i) ≡
 
 -- one element each
 module _ (x : ℕ → ℕ) (n : ℕ) (d : List ℕ) (e : Begins (joined (λ i. x i ∷ []) n) d) where
-  pub ones-length : n ≤ length d
-  ones-length = rw (one-mul n) at (rows-length (λ i. x i ∷ []) 1 (λ i. refl) n d e)
-
   pub ones-at : (i : ℕ) → i < n → getD d i 0 ≡ x i
   ones-at i h =
       let p : 1 * i + 0 ≡ i = omega arith in

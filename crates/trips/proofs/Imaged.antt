@@ -1,19 +1,17 @@
 -- The fields of an image, found again in its octets; and octets that are laid out as fields, spelled as an image. Assumes nothing.
-use Prim.Native.Nat.{ℕ, suc, _+_, _*_, _^_, _≤_, _<_}
+use Prim.Native.Nat.{ℕ, _+_, _*_, _≤_, _<_}
 use mathlib.Core.List.{List, [], _∷_, _++_}
-use mathlib.Core.Path.{_≡_, refl, sym, ap, ap₂, _∙_}
-use native.Mathlib.Nat.{add-zero, zero-add, add-assoc}
+use mathlib.Core.Path.{_≡_, sym, ap, ap₂, _∙_}
+use native.Mathlib.Nat.{add-zero, zero-add}
 use native.Mathlib.Omega.{arith}
-use lib.ListN.{length, getD, length-append, List·getD-append}
-use lib.Seq.{getD-append-add}
-use Rattle.octets.specs.Numbers.{numberAt, octetsOf}
+use lib.ListN.{length, getD, length-append}
+use Rattle.octets.specs.Numbers.{octetsOf}
 use Rattle.octets.specs.Runs.{octetsAt, joined}
-use Rattle.octets.proofs.Numbers.{number-shift, number-octets, length-octets}
-use Rattle.octets.proofs.Parts.{length-part, getD-part, part-is, part-front, part-behind, part-join, part-whole, part-joined, joined-at, joined-same, octets-number}
+use Rattle.octets.proofs.Parts.{part-is, part-front, part-behind, part-join, part-whole, part-joined, joined-at, joined-same}
 use Rattle.tables.specs.Rows.{Config, accountOctets, linkOctets}
 use Rattle.fields.specs.Fields.{fieldOf, tagAndLength}
 use Rattle.layout.specs.Layout.{headTag, accountTag, linkTag, endTag, edition, imageOf, headSize, accountSize, linkSize, fieldPlace, imageLength}
-use Rattle.fields.proofs.Fields.{length-field, tag-read, length-read, data-read, field-spelled}
+use Rattle.fields.proofs.Fields.{length-field}
 use Rattle.image_octets.proofs.Laying.{length-fields, head-size, rowField, length-row-field}
 
 -- ---- where links stand

@@ -20,23 +20,22 @@ use Rattle.tables.specs.Rules.{accountGood, linkGood}
 use Rattle.lists.proofs.Leading.{leading-before, leading-is}
 use Rattle.tables.proofs.Rows.{terms-part, link-part}
 use Rattle.tables.proofs.Rules.{account-good-same, link-good-same}
-use Rattle.fields.specs.Fields.{tagAndLength, fieldOf}
+use Rattle.fields.specs.Fields.{tagAndLength, fieldOf, standsAt}
 use Rattle.layout.specs.Layout.{headTag, accountTag, linkTag, endTag, edition, headOctets, headSize, accountSize, linkSize, fieldPlace, dataPlace, imageLength, maxAccounts, maxLinks, constantGood, imageOf}
-use Rattle.image.specs.Read.{headCode, accountFields, linkFields, tagAt, nextCode, goodField, readImage}
+use Rattle.image.specs.Read.{headCode, accountFields, linkFields, dataOctets, tagAt, nextCode, goodField, readImage}
 use Rattle.loader.specs.Loading.{Runs, runsOf, loadingOf, accountRows, linkRows, capacities, filled, runsHold, loading}
 use Rattle.loader.specs.Fresh.{Fresh, HoldsImage}
 use Rattle.image.specs.declared.Loaded.{Loaded}
 use Rattle.layout.proofs.Places.{account-place, link-place}
-use Rattle.image.proofs.Checks.{octets-account, octets-link, octets-end}
 use Rattle.image.proofs.Reading.{few-read}
-use Rattle.image.proofs.Accepted.{Accepted, accepted, head-passes, next-passes, good-tag, good-code, good-account, good-link, counted-account, counted-link, some-accounts, some-links, end-tag}
+use Rattle.image.proofs.Accepted.{Accepted, accepted, head-passes, good-tag, good-by, good-passes, good-account, good-link, counted-account, counted-link, some-accounts, some-links, end-tag}
 use Rattle.image.proofs.Passing.{head-good-by, head-good-constant, head-good-edition, head-code-by, account-passes, link-passes, end-passes, reads-as}
 use Rattle.loader.proofs.Fresh.{by-load, begins-put, rows-at, load-fresh, fresh-holds, held-long}
 use Rattle.image_writer.specs.Writing.{countsGood, countGood, badAccount, badLink, valueAnswer, writtenOf, writeAnswer, writingOf, writing}
 use Rattle.trips.specs.Trips.{tablesIn, AcceptedIsImage, ImageIsAccepted, writtenImage, readBack, WriteRead, loadedTables, ReadWrite}
 use Rattle.image_writer.specs.declared.Written.{Written}
 use Rattle.image_writer.proofs.Answers.{writing-answer, accounts-counted, links-counted, by-values, by-writing, all-good, room-enough, writing-done}
-use Rattle.fields.proofs.Fields.{tag-read, length-read, data-read, field-spelled}
+use Rattle.fields.proofs.Fields.{stands-by, tag-read, length-read, data-read, field-spelled}
 use Rattle.trips.proofs.Imaged.{image-head, image-account, image-link, image-end, image-spelled}
 use Rattle.image_octets.proofs.Laying.{rowField, length-head, length-image}
 
@@ -213,15 +212,17 @@ module _ (g : Config) (room : ℕ) (a : Accepts g room) (c32 : g .constant < 2 ^
       (length-read s 0 headOctets headTag (edition ∷ octetsOf 4 (g .constant)) (length-head (g .constant)) (image-head g) (omega arith))
       (head-good-by s (head-octet 0 (omega arith)) (ap constantGood constant-back ∙ a .constant))
 
+  -- a field of the image stands whole
+  stands : (at w tag : ℕ) (bytes : List ℕ) → length bytes ≡ w → octetsAt (tagAndLength + w) s at ≡ fieldOf tag bytes → w < 2 ^ 16
+      → at + (tagAndLength + w) ≤ length s → standsAt s at tag w ≡ true
+  stands at w tag bytes l e h = stands-by s at tag w (tag-read s at w tag bytes l e) (length-read s at w tag bytes l e h)
+
   account-ok : (i : ℕ) → i < n → goodField s accountTag i 0 ≡ true
   account-ok i l =
-      let row : List ℕ = rowOctets accountOctets (accountTable (g .accounts)) i in
-      let w : length row ≡ accountOctets = length-part accountOctets (g .accounts) _ in
       let few : n ≤ maxAccounts = some-n .1 in
       account-passes s i
-      (tag-read s (fieldPlace i 0) accountOctets accountTag row w (image-account g i l))
-      (length-read s (fieldPlace i 0) accountOctets accountTag row w (image-account g i l) (omega arith))
-      (account-inside i n m s l length-is) (omega arith)
+      (stands (fieldPlace i 0) accountOctets accountTag _ (length-part accountOctets (g .accounts) _) (image-account g i l) (omega arith) (account-inside i n m s l length-is))
+      (omega arith)
       (account-good-same (accountFields s) (accountTable (g .accounts)) i i (terms-back i l) ∙ a .accounts i l)
 
   link-tag : (j : ℕ) → j < m → tagAt s n j ≡ linkTag
@@ -230,12 +231,10 @@ module _ (g : Config) (room : ℕ) (a : Accepts g room) (c32 : g .constant < 2 ^
 
   link-ok : (j : ℕ) → j < m → goodField s linkTag n j ≡ true
   link-ok j l =
-      let row : List ℕ = rowOctets linkOctets (linkTable (g .links)) j in
-      let w : length row ≡ linkOctets = length-part linkOctets (g .links) _ in
       let few : m ≤ maxLinks = some-m .1 in
-      link-passes s n j (some-n .0) (link-tag j l)
-      (length-read s (fieldPlace n j) linkOctets linkTag row w (image-link g j l) (omega arith))
-      (link-inside n j m s l length-is) (omega arith)
+      link-passes s n j (some-n .0)
+      (stands (fieldPlace n j) linkOctets linkTag _ (length-part linkOctets (g .links) _) (image-link g j l) (omega arith) (link-inside n j m s l length-is))
+      (omega arith)
       (link-good-same (accountFields s) (accountTable (g .accounts)) (linkFields s n) (linkTable (g .links)) n j terms-back (links-back j l) (links-back (j - 1) (omega arith))
       ∙ a .links j l)
 
@@ -245,7 +244,7 @@ module _ (g : Config) (room : ℕ) (a : Accepts g room) (c32 : g .constant < 2 ^
   end-ok : nextCode s n m ≡ 0
   end-ok =
       let l = length-is in
-      end-passes s n m (some-n .0) (some-m .0) end-is (length-read s (fieldPlace n m) 0 endTag [] refl (image-end g) (omega arith)) (omega arith)
+      end-passes s n m (some-n .0) (some-m .0) (stands (fieldPlace n m) 0 endTag [] refl (image-end g) (omega arith) (omega arith))
 
   pub image-reads : readImage s ≡ record { code = 0; offset = length s; settings = settingsOf (g .constant) n m }
   image-reads =
@@ -345,25 +344,27 @@ module _ (s : List ℕ) (o : (i : ℕ) → getD s i 0 < 256) (z : readImage s .c
       ∙ ap (fieldOf headTag) (part-join 1 4 s 3 ∙ ap₂ _++_ one four)
 
   spelled-account : (i : ℕ) → i < q .settings .accounts → octetsAt accountSize s (fieldPlace i 0) ≡ rowField accountTag accountOctets (r .accounts) i
+  unfolding dataOctets
   spelled-account i l =
       let w = account-well i l in
-      let t : tagAt s i 0 ≡ accountTag = good-tag s accountTag i 0 w in
-      field-spelled s (fieldPlace i 0) accountOctets accountTag o t (next-passes s i 0 (good-code s accountTag i 0 w) .sized ∙ sym (octets-account (tagAt s i 0) t))
+      field-spelled s (fieldPlace i 0) accountOctets accountTag o (good-tag s accountTag i 0 w) (good-passes s accountTag i 0 w .sized)
       ∙ ap (fieldOf accountTag) (ap (octetsAt accountOctets s) (account-place i) ∙ sym (account-octets s r f i l))
 
   spelled-link : (j : ℕ) → j < q .settings .links → octetsAt linkSize s (fieldPlace (q .settings .accounts) j) ≡ rowField linkTag linkOctets (r .links) j
+  unfolding dataOctets
   spelled-link j l =
       let w = link-well j l in
-      let t : tagAt s (q .settings .accounts) j ≡ linkTag = good-tag s linkTag (q .settings .accounts) j w in
-      field-spelled s (fieldPlace (q .settings .accounts) j) linkOctets linkTag o t
-      (next-passes s (q .settings .accounts) j (good-code s linkTag (q .settings .accounts) j w) .sized ∙ sym (octets-link (tagAt s (q .settings .accounts) j) (λ y. omega arith) t))
+      let n = q .settings .accounts in
+      field-spelled s (fieldPlace n j) linkOctets linkTag o (good-tag s linkTag n j w) (good-passes s linkTag n j w .sized)
       ∙ ap (fieldOf linkTag) (ap (octetsAt linkOctets s) (link-place (q .settings .accounts) j) ∙ sym (link-octets s r f j l))
 
   spelled-end : octetsAt tagAndLength s (fieldPlace (q .settings .accounts) (q .settings .links)) ≡ fieldOf endTag []
+  unfolding dataOctets
   spelled-end =
-      let t : tagAt s (q .settings .accounts) (q .settings .links) ≡ endTag = end-tag s (q .settings .accounts) (q .settings .links) (ok .accounts-are) (ok .links-are) (ok .end-code) in
-      field-spelled s (fieldPlace (q .settings .accounts) (q .settings .links)) 0 endTag o t
-      (next-passes s (q .settings .accounts) (q .settings .links) (ok .end-code) .sized ∙ sym (octets-end (tagAt s (q .settings .accounts) (q .settings .links)) (λ y. omega arith) (λ y. omega arith)))
+      let n = q .settings .accounts in
+      let m = q .settings .links in
+      let t = end-tag s n m (ok .accounts-are) (ok .links-are) (ok .end-code) in
+      field-spelled s (fieldPlace n m) 0 endTag o t (good-passes s endTag n m (good-by s endTag n m t (ok .end-code)) .sized)
       ∙ ap (fieldOf endTag) (part-none s _)
 
   pub image-again : imageOf g ≡ s

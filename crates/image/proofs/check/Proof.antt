@@ -11,7 +11,7 @@ refused-requires : tie.Need-refused-requires
 refused-requires c κs = search needs
 
 returns : tie.Need-returns
-returns c = head-refused _ _ (c .before .before .head-code .ensures) (c .before .if1 .taken) _ (c .refused .ensures)
+returns c = search head-refused
 
 count-accounts-requires : tie.Need-count-accounts-requires
 count-accounts-requires c κs = search needs
@@ -23,16 +23,10 @@ read-end-requires : tie.Need-read-end-requires
 read-end-requires c κs = search needs
 
 returns-2 : tie.Need-returns-2
-returns-2 c = head-passed _ _ (c .before .before .before .before .head-code .ensures) (c .before .before .before .if1 .left) _ _ _ (c .before .before .count-accounts .ensures) (c .before .count-links .ensures) (c .read-end .ensures)
+returns-2 c = search head-passed
 
 pub check-spec : {M : Type 1} → statement M
 check-spec =
     tie.close
-    (tie.spec
-    head-code-requires
-    refused-requires
-    returns
-    count-accounts-requires
-    count-links-requires
-    read-end-requires
+    (tie.spec head-code-requires refused-requires returns count-accounts-requires count-links-requires read-end-requires
     returns-2)

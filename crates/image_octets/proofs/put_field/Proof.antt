@@ -22,7 +22,7 @@ has-room-requires : tie.Need-has-room-requires
 has-room-requires c κs = search needs
 
 returns : tie.Need-returns
-returns c = put-refused _ _ _ _ _ (c .before .has-room .ensures) (length-sized _ _ _ _) (c .if1 .taken)
+returns c = search (put-refused, length-sized)
 
 slice-write-room : tie.Need-slice-write-room
 slice-write-room c = let h = room c in omega arith
@@ -43,19 +43,10 @@ same-length : tie.Need-same-length
 same-length c = length-laid (c .before .before .before .before .before .before .before .before .before .before .before .before .args .room .now) _ _ _ (field-laid (c .before .before .before .before .before .before .before .before .before .before .before .before .args .room .now) _ _ _ (c .before .before .before .before .before .before .before .before .before .before .before .before .args .tag) _ _ (length-part _ _ _) (room (c .before .before .before .before .before .before .before .before)) (c .before .before .before .before .before .before .put-u16 .ensures) (c .before .before .copy .ensures))
 
 returns-2 : tie.Need-returns-2
-returns-2 c = field-laid _ _ _ _ _ _ _ (length-part _ _ _) (room (c .before .before .before .before .before .before .before .before)) (c .before .before .before .before .before .before .put-u16 .ensures) (c .before .before .copy .ensures)
+returns-2 c = search (field-laid, length-part, room)
 
 pub put-field-spec : {M : Type 1} → statement M
 put-field-spec =
     tie.close
-    (tie.spec
-    add-has-room
-    has-room-requires
-    returns
-    slice-write-room
-    add-put-u16
-    put-u16-requires
-    add-copy
-    copy-requires
-    same-length
-    returns-2)
+    (tie.spec add-has-room has-room-requires returns slice-write-room add-put-u16 put-u16-requires add-copy copy-requires
+    same-length returns-2)

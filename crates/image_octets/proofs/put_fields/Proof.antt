@@ -31,7 +31,7 @@ returns : tie.Need-returns Inv-loop μ-loop
 returns c = fill-refused _ _ _ _ _ (length-row-field _ _ _) refl (c .before .has-room .ensures) (c .if1 .taken)
 
 loop-holds : tie.Need-loop-holds Inv-loop μ-loop
-loop-holds c = fill-start (length-row-field _ _ _) (has-room _ _ _ _ (c .before .has-room .ensures) (c .if1 .left))
+loop-holds c = search (fill-start, length-row-field, has-room)
 
 cast-put-field : tie.Need-cast-put-field Inv-loop μ-loop
 cast-put-field c = search needs
@@ -66,27 +66,10 @@ same-length : tie.Need-same-length Inv-loop μ-loop
 same-length c = c .before .loop .inv .long
 
 returns-2 : tie.Need-returns-2 Inv-loop μ-loop
-returns-2 c = fill-end (c .before .loop .inv) (c .loop-test .left) refl
+returns-2 c = search fill-end
 
 pub put-fields-spec : {M : Type 1} → statement M
 put-fields-spec =
     tie.close
-    (tie.spec
-    Inv-loop
-    μ-loop
-    add-step
-    mul-has-room
-    has-room-requires
-    returns
-    loop-holds
-    cast-put-field
-    mul-put-field
-    add-put-field
-    cast-put-field-2
-    mul-put-field-2
-    put-field-requires
-    add-i
-    loop-less
-    loop-again
-    same-length
-    returns-2)
+    (tie.spec Inv-loop μ-loop add-step mul-has-room has-room-requires returns loop-holds cast-put-field mul-put-field
+    add-put-field cast-put-field-2 mul-put-field-2 put-field-requires add-i loop-less loop-again same-length returns-2)

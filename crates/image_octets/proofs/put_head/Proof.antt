@@ -4,8 +4,7 @@ use native.Mathlib.Omega.{arith}
 use lib.ListN.{length}
 use Rattle.octets.proofs.Runs.{put-refused, length-laid}
 use Rattle.octets.proofs.Tests.{has-room-first}
-use Rattle.octets.specs.Numbers.{octetsOf}
-use Rattle.layout.specs.Layout.{headTag, headOctets, headSize}
+use Rattle.layout.specs.Layout.{headSize}
 use Rattle.image_octets.proofs.Laying.{head-size, head-laid, head-inside}
 use borrow.Author.Needs.{needs}
 use Rattle.image_octets.proofs.put_head.Statement.{statement}
@@ -19,7 +18,7 @@ has-room-requires : tie.Need-has-room-requires
 has-room-requires c κs = search needs
 
 returns : tie.Need-returns
-returns c = put-refused _ _ _ _ _ (c .before .has-room .ensures) (head-size _) (c .if1 .taken)
+returns c = search (put-refused, head-size)
 
 slice-write-room : tie.Need-slice-write-room
 slice-write-room c = let h = room c in omega arith
@@ -31,7 +30,7 @@ put-u16-requires : tie.Need-put-u16-requires
 put-u16-requires c κs = search needs
 
 slice-write-room-2 : tie.Need-slice-write-room-2
-slice-write-room-2 c = head-inside (c .before .before .before .before .before .before .before .args .room .now) _ headTag (octetsOf 2 headOctets) (room (c .before .before .before .before)) (c .before .before .put-u16 .ensures)
+slice-write-room-2 c = search (head-inside, room)
 
 put-u32-requires : tie.Need-put-u32-requires
 put-u32-requires c κs = search needs
@@ -40,18 +39,10 @@ same-length : tie.Need-same-length
 same-length c = length-laid (c .before .before .before .before .before .before .before .before .before .before .before .args .room .now) _ _ _ (head-laid (c .before .before .before .before .before .before .before .before .before .before .before .args .room .now) _ _ _ (room (c .before .before .before .before .before .before .before .before)) (c .before .before .before .before .before .before .put-u16 .ensures) (c .before .before .put-u32 .ensures))
 
 returns-2 : tie.Need-returns-2
-returns-2 c = head-laid _ _ _ _ (room (c .before .before .before .before .before .before .before .before)) (c .before .before .before .before .before .before .put-u16 .ensures) (c .before .before .put-u32 .ensures)
+returns-2 c = search (head-laid, room)
 
 pub put-head-spec : {M : Type 1} → statement M
 put-head-spec =
     tie.close
-    (tie.spec
-    has-room-requires
-    returns
-    slice-write-room
-    cast-put-u16
-    put-u16-requires
-    slice-write-room-2
-    put-u32-requires
-    same-length
-    returns-2)
+    (tie.spec has-room-requires returns slice-write-room cast-put-u16 put-u16-requires slice-write-room-2 put-u32-requires
+    same-length returns-2)

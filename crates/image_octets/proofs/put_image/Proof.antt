@@ -54,18 +54,6 @@ returns-2 c =
 pub put-image-spec : {M : Type 1} → statement M
 put-image-spec =
     tie.close
-    (tie.spec
-    data-place-requires
-    has-room-requires
-    returns
-    put-head-requires
-    field-place-requires
-    cast-put-fields
-    put-fields-requires
-    field-place-requires-2
-    cast-put-fields-2
-    put-fields-requires-2
-    field-place-requires-3
-    put-field-requires
-    same-length
-    returns-2)
+    (tie.spec data-place-requires has-room-requires returns put-head-requires field-place-requires cast-put-fields
+    put-fields-requires field-place-requires-2 cast-put-fields-2 put-fields-requires-2 field-place-requires-3 put-field-requires
+    same-length returns-2)

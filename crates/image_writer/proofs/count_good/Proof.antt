@@ -6,16 +6,16 @@ use Rattle.image_writer.proofs.count_good.Statement.{statement}
 use Rattle.image_writer.proofs.count_good.Tie as tie
 
 returns : tie.Need-returns
-returns c = count-none _ _ _ _ (c .if1 .taken)
+returns c = search count-none
 
 returns-2 : tie.Need-returns-2
-returns-2 c = count-over _ _ _ _ (c .before .if1 .left) (c .if2 .taken)
+returns-2 c = search count-over
 
 mul-result : tie.Need-mul-result
 mul-result c = let p = small-product (c .before .before .args .size) (c .before .before .args .n) (omega arith) (omega arith) in omega arith
 
 returns-3 : tie.Need-returns-3
-returns-3 c = count-tested _ _ _ _ (c .before .if1 .left) (c .if2 .left)
+returns-3 c = search count-tested
 
 pub count-good-spec : {M : Type 1} → statement M
 count-good-spec = tie.close (tie.spec returns returns-2 mul-result returns-3)

@@ -11,7 +11,7 @@ count-good-requires : tie.Need-count-good-requires
 count-good-requires c κs = search needs
 
 returns : tie.Need-returns
-returns c = accounts-bad _ _ _ _ _ (c .before .count-good .ensures) (c .if1 .taken)
+returns c = search accounts-bad
 
 cast-count-good-2 : tie.Need-cast-count-good-2
 cast-count-good-2 c = search needs
@@ -20,15 +20,9 @@ count-good-requires-2 : tie.Need-count-good-requires-2
 count-good-requires-2 c κs = search needs
 
 returns-2 : tie.Need-returns-2
-returns-2 c = links-left _ _ _ _ _ (c .before .before .count-good .ensures) (c .before .if1 .left) _ (c .count-good2 .ensures)
+returns-2 c = search links-left
 
 pub counts-good-spec : {M : Type 1} → statement M
 counts-good-spec =
     tie.close
-    (tie.spec
-    cast-count-good
-    count-good-requires
-    returns
-    cast-count-good-2
-    count-good-requires-2
-    returns-2)
+    (tie.spec cast-count-good count-good-requires returns cast-count-good-2 count-good-requires-2 returns-2)

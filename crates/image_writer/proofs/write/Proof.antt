@@ -9,7 +9,7 @@ write-answer-requires : tie.Need-write-answer-requires
 write-answer-requires c κs = search needs
 
 returns : tie.Need-returns
-returns c = writing-refused _ _ _ (c .before .before .write-answer .ensures) (c .if1 .taken)
+returns c = search writing-refused
 
 cast-put-image : tie.Need-cast-put-image
 cast-put-image c = let h = accounts-counted _ _ _ _ (written-counts _ _ _ (c .before .before .write-answer .ensures) (c .if1 .left)) .few in omega arith
@@ -24,16 +24,9 @@ same-length : tie.Need-same-length
 same-length c = search needs
 
 returns-2 : tie.Need-returns-2
-returns-2 c = writing-done _ _ _ (c .before .before .before .before .before .before .write-answer .ensures) (c .before .before .before .before .if1 .left) _ (c .before .before .put-image .ensures)
+returns-2 c = search writing-done
 
 pub write-spec : {M : Type 1} → statement M
 write-spec =
     tie.close
-    (tie.spec
-    write-answer-requires
-    returns
-    cast-put-image
-    cast-put-image-2
-    put-image-requires
-    same-length
-    returns-2)
+    (tie.spec write-answer-requires returns cast-put-image cast-put-image-2 put-image-requires same-length returns-2)

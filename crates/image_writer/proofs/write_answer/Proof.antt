@@ -17,7 +17,7 @@ counts-good-requires : tie.Need-counts-good-requires
 counts-good-requires c κs = search needs
 
 returns : tie.Need-returns
-returns c = counts-bad _ _ _ (c .before .counts-good .ensures) (c .if1 .taken)
+returns c = search counts-bad
 
 cast-value-answer : tie.Need-cast-value-answer
 cast-value-answer c = let h = accounts-counted _ _ _ _ (counts c) .few in omega arith
@@ -29,7 +29,7 @@ value-answer-requires : tie.Need-value-answer-requires
 value-answer-requires c κs = search needs
 
 returns-2 : tie.Need-returns-2
-returns-2 c = value-bad _ _ _ (c .before .before .before .before .counts-good .ensures) (c .before .before .before .if1 .left) _ (c .before .before .value-answer .ensures) (c .if2 .taken)
+returns-2 c = search value-bad
 
 cast-data-place : tie.Need-cast-data-place
 cast-data-place c = let h = accounts-counted _ _ _ _ (counts (c .before .before .before)) .few in omega arith
@@ -41,23 +41,13 @@ data-place-requires : tie.Need-data-place-requires
 data-place-requires c κs = search needs
 
 returns-3 : tie.Need-returns-3
-returns-3 c = room-short _ _ _ (c .before .before .before .before .before .before .counts-good .ensures) (c .before .before .before .before .before .if1 .left) _ (c .before .before .before .before .value-answer .ensures) (c .before .before .if2 .left) _ (c .before .data-place .ensures) (c .if3 .taken)
+returns-3 c = search room-short
 
 returns-4 : tie.Need-returns-4
-returns-4 c = room-enough _ _ _ (c .before .before .before .before .before .before .counts-good .ensures) (c .before .before .before .before .before .if1 .left) _ (c .before .before .before .before .value-answer .ensures) (c .before .before .if2 .left) _ (c .before .data-place .ensures) (c .if3 .left)
+returns-4 c = search room-enough
 
 pub write-answer-spec : {M : Type 1} → statement M
 write-answer-spec =
     tie.close
-    (tie.spec
-    counts-good-requires
-    returns
-    cast-value-answer
-    cast-value-answer-2
-    value-answer-requires
-    returns-2
-    cast-data-place
-    cast-data-place-2
-    data-place-requires
-    returns-3
-    returns-4)
+    (tie.spec counts-good-requires returns cast-value-answer cast-value-answer-2 value-answer-requires returns-2 cast-data-place
+    cast-data-place-2 data-place-requires returns-3 returns-4)

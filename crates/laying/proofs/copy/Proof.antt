@@ -10,7 +10,7 @@ has-room-requires : tie.Need-has-room-requires
 has-room-requires c κs = search needs
 
 returns : tie.Need-returns
-returns c = put-refused _ _ _ _ _ (c .before .has-room .ensures) (length-part _ _ _) (c .if1 .taken)
+returns c = search (put-refused, length-part)
 
 has-room-requires-2 : tie.Need-has-room-requires-2
 has-room-requires-2 c κs = search needs
@@ -36,13 +36,5 @@ returns-3 c = search needs
 pub copy-spec : {M : Type 1} → statement M
 copy-spec =
     tie.close
-    (tie.spec
-    has-room-requires
-    returns
-    has-room-requires-2
-    copy-whole-requires
-    copy-padded-requires
-    same-length
-    returns-2
-    same-length-2
-    returns-3)
+    (tie.spec has-room-requires returns has-room-requires-2 copy-whole-requires copy-padded-requires same-length returns-2
+    same-length-2 returns-3)

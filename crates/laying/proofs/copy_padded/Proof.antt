@@ -53,22 +53,10 @@ same-length : tie.Need-same-length Inv-loop μ-loop
 same-length c = c .before .loop .inv .long
 
 returns : tie.Need-returns Inv-loop μ-loop
-returns c = fill-end (c .before .loop .inv) (c .loop-test .left) (part-ones _ _ _)
+returns c = search (fill-end, part-ones)
 
 pub copy-padded-spec : {M : Type 1} → statement M
 copy-padded-spec =
     tie.close
-    (tie.spec
-    Inv-loop
-    μ-loop
-    least-requires
-    loop-holds
-    add-octet-at
-    octet-at-requires
-    add-to
-    slice-write-to
-    add-i
-    loop-less
-    loop-again
-    same-length
-    returns)
+    (tie.spec Inv-loop μ-loop least-requires loop-holds add-octet-at octet-at-requires add-to slice-write-to add-i loop-less
+    loop-again same-length returns)

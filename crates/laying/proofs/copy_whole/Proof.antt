@@ -40,21 +40,10 @@ same-length : tie.Need-same-length Inv-loop μ-loop
 same-length c = c .before .loop .inv .long
 
 returns : tie.Need-returns Inv-loop μ-loop
-returns c = fill-end (c .before .loop .inv) (c .loop-test .left) (part-ones _ _ _)
+returns c = search (fill-end, part-ones)
 
 pub copy-whole-spec : {M : Type 1} → statement M
 copy-whole-spec =
     tie.close
-    (tie.spec
-    Inv-loop
-    μ-loop
-    loop-holds
-    add-to
-    shared-slice-read-to
-    add-to-2
-    slice-write-to
-    add-i
-    loop-less
-    loop-again
-    same-length
-    returns)
+    (tie.spec Inv-loop μ-loop loop-holds add-to shared-slice-read-to add-to-2 slice-write-to add-i loop-less loop-again
+    same-length returns)

@@ -17,7 +17,7 @@ has-room-requires : tie.Need-has-room-requires
 has-room-requires c κs = search needs
 
 returns : tie.Need-returns
-returns c = put-refused _ _ _ _ 2 (c .before .has-room .ensures) (length-octets 2 _) (c .if1 .taken)
+returns c = search (put-refused, length-octets)
 
 cast-to : tie.Need-cast-to
 cast-to c = search needs
@@ -38,18 +38,9 @@ same-length : tie.Need-same-length
 same-length c = search needs
 
 returns-2 : tie.Need-returns-2
-returns-2 c = put-two _ _ _ (c .before .before .before .fits .x .fits) (room c)
+returns-2 c = search (put-two, room)
 
 pub put-u16-spec : {M : Type 1} → statement M
 put-u16-spec =
     tie.close
-    (tie.spec
-    has-room-requires
-    returns
-    cast-to
-    slice-write-to
-    cast-to-2
-    add-to
-    slice-write-to-2
-    same-length
-    returns-2)
+    (tie.spec has-room-requires returns cast-to slice-write-to cast-to-2 add-to slice-write-to-2 same-length returns-2)

@@ -17,7 +17,7 @@ has-room-requires : tie.Need-has-room-requires
 has-room-requires c κs = search needs
 
 returns : tie.Need-returns
-returns c = put-refused _ _ _ _ 4 (c .before .has-room .ensures) (length-octets 4 _) (c .if1 .taken)
+returns c = search (put-refused, length-octets)
 
 cast-put-u16 : tie.Need-cast-put-u16
 cast-put-u16 c = search needs
@@ -46,13 +46,5 @@ returns-2 c =
 pub put-u32-spec : {M : Type 1} → statement M
 put-u32-spec =
     tie.close
-    (tie.spec
-    has-room-requires
-    returns
-    cast-put-u16
-    put-u16-requires
-    add-put-u16
-    cast-put-u16-2
-    put-u16-requires-2
-    same-length
+    (tie.spec has-room-requires returns cast-put-u16 put-u16-requires add-put-u16 cast-put-u16-2 put-u16-requires-2 same-length
     returns-2)

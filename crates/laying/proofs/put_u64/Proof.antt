@@ -17,7 +17,7 @@ has-room-requires : tie.Need-has-room-requires
 has-room-requires c κs = search needs
 
 returns : tie.Need-returns
-returns c = put-refused _ _ _ _ 8 (c .before .has-room .ensures) (length-octets 8 _) (c .if1 .taken)
+returns c = search (put-refused, length-octets)
 
 cast-put-u32 : tie.Need-cast-put-u32
 cast-put-u32 c = search needs
@@ -46,13 +46,5 @@ returns-2 c =
 pub put-u64-spec : {M : Type 1} → statement M
 put-u64-spec =
     tie.close
-    (tie.spec
-    has-room-requires
-    returns
-    cast-put-u32
-    put-u32-requires
-    add-put-u32
-    cast-put-u32-2
-    put-u32-requires-2
-    same-length
+    (tie.spec has-room-requires returns cast-put-u32 put-u32-requires add-put-u32 cast-put-u32-2 put-u32-requires-2 same-length
     returns-2)

@@ -24,22 +24,15 @@ same-length : tie.Need-same-length
 same-length c = search needs
 
 returns : tie.Need-returns
-returns c = part-laid _ _ _ _ _ (c .before .before .before .before .copy .ensures) _ (c .before .has-room .ensures) (c .if1 .taken)
+returns c = search part-laid
 
 same-length-2 : tie.Need-same-length-2
 same-length-2 c = search needs
 
 returns-2 : tie.Need-returns-2
-returns-2 c = part-not _ _ _ _ _ (c .before .before .before .before .copy .ensures) _ (c .before .has-room .ensures) (c .if1 .left)
+returns-2 c = search part-not
 
 pub lay-spec : {M : Type 1} → statement M
 lay-spec =
     tie.close
-    (tie.spec
-    copy-requires
-    has-room-requires
-    add-result
-    same-length
-    returns
-    same-length-2
-    returns-2)
+    (tie.spec copy-requires has-room-requires add-result same-length returns same-length-2 returns-2)

@@ -52,15 +52,5 @@ returns c =
 pub put-code-line-spec : {M : Type 1} → statement M
 put-code-line-spec =
     tie.close
-    (tie.spec
-    slice-aggregate-put-word
-    put-word-requires
-    slice-aggregate-put-word-2
-    put-word-requires-2
-    slice-aggregate-lay
-    slice-aggregate-lay-2
-    lay-requires
-    slice-aggregate-lay-3
-    lay-requires-2
-    same-length
-    returns)
+    (tie.spec slice-aggregate-put-word put-word-requires slice-aggregate-put-word-2 put-word-requires-2 slice-aggregate-lay
+    slice-aggregate-lay-2 lay-requires slice-aggregate-lay-3 lay-requires-2 same-length returns)

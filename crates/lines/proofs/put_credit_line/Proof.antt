@@ -47,14 +47,5 @@ returns c =
 pub put-credit-line-spec : {M : Type 1} → statement M
 put-credit-line-spec =
     tie.close
-    (tie.spec
-    slice-aggregate-put-word
-    put-word-requires
-    slice-aggregate-put-word-2
-    put-word-requires-2
-    slice-aggregate-put-word-3
-    put-word-requires-3
-    slice-aggregate-lay
-    lay-requires
-    same-length
-    returns)
+    (tie.spec slice-aggregate-put-word put-word-requires slice-aggregate-put-word-2 put-word-requires-2 slice-aggregate-put-word-3
+    put-word-requires-3 slice-aggregate-lay lay-requires same-length returns)

@@ -54,20 +54,6 @@ returns-4 c = rw (c .before .before .before .before .before .verdict4 .given .1)
 pub put-line-spec : {M : Type 1} → statement M
 put-line-spec =
     tie.close
-    (tie.spec
-    enum-known-verdict
-    put-credit-line-requires
-    enum-known-verdict-2
-    put-credit-line-requires-2
-    enum-known-verdict-3
-    put-credit-line-requires-3
-    enum-known-verdict-4
-    put-code-line-requires
-    same-length
-    returns
-    same-length-2
-    returns-2
-    same-length-3
-    returns-3
-    same-length-4
-    returns-4)
+    (tie.spec enum-known-verdict put-credit-line-requires enum-known-verdict-2 put-credit-line-requires-2 enum-known-verdict-3
+    put-credit-line-requires-3 enum-known-verdict-4 put-code-line-requires same-length returns same-length-2 returns-2
+    same-length-3 returns-3 same-length-4 returns-4)

@@ -51,15 +51,5 @@ returns c =
 pub put-refused-image-spec : {M : Type 1} → statement M
 put-refused-image-spec =
     tie.close
-    (tie.spec
-    slice-aggregate-lay
-    slice-aggregate-lay-2
-    lay-requires
-    slice-aggregate-put-word
-    put-word-requires
-    slice-aggregate-put-word-2
-    put-word-requires-2
-    slice-aggregate-lay-3
-    lay-requires-2
-    same-length
-    returns)
+    (tie.spec slice-aggregate-lay slice-aggregate-lay-2 lay-requires slice-aggregate-put-word put-word-requires
+    slice-aggregate-put-word-2 put-word-requires-2 slice-aggregate-lay-3 lay-requires-2 same-length returns)

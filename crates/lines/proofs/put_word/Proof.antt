@@ -24,7 +24,7 @@ has-room-requires : tie.Need-has-room-requires
 has-room-requires c κs = search needs
 
 returns : tie.Need-returns
-returns c = word-not _ _ _ _ _ (c .before .before .width .ensures) (no-room _ _ _ _ (c .before .has-room .ensures) (c .if1 .taken))
+returns c = search (word-not, no-room)
 
 put-digits-requires : tie.Need-put-digits-requires
 put-digits-requires c κs = search needs
@@ -45,20 +45,10 @@ same-length : tie.Need-same-length
 same-length c = search needs
 
 returns-2 : tie.Need-returns-2
-returns-2 c = word-laid _ _ _ _ _ (c .before .before .before .before .before .before .width .ensures) _ (room (c .before .before .before .before)) (c .before .before .put-digits .ensures)
+returns-2 c = search (word-laid, room)
 
 pub put-word-spec : {M : Type 1} → statement M
 put-word-spec =
     tie.close
-    (tie.spec
-    width-requires
-    add-has-room
-    has-room-requires
-    returns
-    put-digits-requires
-    add-line
-    slice-write-line
-    add-result
-    add-result-2
-    same-length
-    returns-2)
+    (tie.spec width-requires add-has-room has-room-requires returns put-digits-requires add-line slice-write-line add-result
+    add-result-2 same-length returns-2)

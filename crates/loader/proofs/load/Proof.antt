@@ -1,6 +1,5 @@
 -- `load`: the answer, and the runs filled by its counts, which are 0 after a refusal. Assumes nothing.
 use native.Mathlib.Omega.{arith}
-use Rattle.loader.specs.Loading.{runsOf}
 use Rattle.loader.proofs.Loading.{few-accounts-loaded, few-links-loaded}
 use Rattle.loader.proofs.Filling.{load-is}
 use borrow.Author.Needs.{needs}
@@ -32,21 +31,10 @@ same-length-4 : tie.Need-same-length-4
 same-length-4 c = search needs
 
 returns : tie.Need-returns
-returns c =
-    let a = c .before .before .before .before .before .before .before .before .before .before .before .before .before .before .before .before .before .before .before .before .before .args in
-    let e = c .before .before .before .before .before .before .before .before .fill-runs .ensures in
-    load-is (a .image .now) (runsOf (a .accounts .now) (a .credits .now) (a .lasts .now) (a .links .now)) _ (c .before .before .before .before .before .before .before .before .before .before .before .before .before .before .before .load-answer .ensures) _ _ _ _ (e .0) (e .1 .0) (e .1 .1 .0) (e .1 .1 .1)
+returns c = search load-is
 
 pub load-spec : {M : Type 1} → statement M
 load-spec =
     tie.close
-    (tie.spec
-    load-answer-requires
-    cast-fill-runs
-    cast-fill-runs-2
-    fill-runs-requires
-    same-length
-    same-length-2
-    same-length-3
-    same-length-4
-    returns)
+    (tie.spec load-answer-requires cast-fill-runs cast-fill-runs-2 fill-runs-requires same-length same-length-2 same-length-3
+    same-length-4 returns)

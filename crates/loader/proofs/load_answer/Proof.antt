@@ -10,7 +10,7 @@ check-requires : tie.Need-check-requires
 check-requires c κs = search needs
 
 returns : tie.Need-returns
-returns c = load-refused _ _ _ _ _ _ (c .before .before .check .ensures) (c .if1 .taken)
+returns c = search load-refused
 
 cast-runs-hold : tie.Need-cast-runs-hold
 cast-runs-hold c = omega (arith, few-accounts-read (c .before .before .before .before .before .args .image .now) _ (c .before .before .before .check .ensures))
@@ -22,23 +22,15 @@ runs-hold-requires : tie.Need-runs-hold-requires
 runs-hold-requires c κs = search needs
 
 returns-2 : tie.Need-returns-2
-returns-2 c = load-held _ _ _ _ _ _ (c .before .before .before .before .before .before .check .ensures) (c .before .before .before .before .if1 .left) _ (c .before .runs-hold .ensures) (c .if2 .taken)
+returns-2 c = search load-held
 
 refused-requires : tie.Need-refused-requires
 refused-requires c κs = search needs
 
 returns-3 : tie.Need-returns-3
-returns-3 c = load-short _ _ _ _ _ _ (c .before .before .before .before .before .before .before .check .ensures) (c .before .before .before .before .before .if1 .left) _ (c .before .before .runs-hold .ensures) (c .before .if2 .left) _ (c .refused .ensures)
+returns-3 c = search load-short
 
 pub load-answer-spec : {M : Type 1} → statement M
 load-answer-spec =
     tie.close
-    (tie.spec
-    check-requires
-    returns
-    cast-runs-hold
-    cast-runs-hold-2
-    runs-hold-requires
-    returns-2
-    refused-requires
-    returns-3)
+    (tie.spec check-requires returns cast-runs-hold cast-runs-hold-2 runs-hold-requires returns-2 refused-requires returns-3)

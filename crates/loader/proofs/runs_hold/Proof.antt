@@ -8,19 +8,19 @@ mul-if1 : tie.Need-mul-if1
 mul-if1 c = search needs
 
 returns : tie.Need-returns
-returns c = accounts-short _ _ _ _ _ _ (c .if1 .taken)
+returns c = search accounts-short
 
 returns-2 : tie.Need-returns-2
-returns-2 c = credits-short _ _ _ _ _ _ (c .before .if1 .left) (c .if2 .taken)
+returns-2 c = search credits-short
 
 returns-3 : tie.Need-returns-3
-returns-3 c = lasts-short _ _ _ _ _ _ (c .before .before .if1 .left) (c .before .if2 .left) (c .if3 .taken)
+returns-3 c = search lasts-short
 
 mul-result : tie.Need-mul-result
 mul-result c = search needs
 
 returns-4 : tie.Need-returns-4
-returns-4 c = links-tested _ _ _ _ _ _ (c .before .before .if1 .left) (c .before .if2 .left) (c .if3 .left)
+returns-4 c = search links-tested
 
 pub runs-hold-spec : {M : Type 1} → statement M
 runs-hold-spec = tie.close (tie.spec mul-if1 returns returns-2 returns-3 mul-result returns-4)

@@ -1,8 +1,6 @@
 -- `find`: the search among the rows in use, which are there whole. Assumes nothing.
 use Prim.Native.Nat.{ℕ, _+_}
 use mathlib.Core.Path.{ap, _∙_}
-use native.Mathlib.Omega.{arith}
-use lib.ListN.{length}
 use Rattle.rows.specs.Rows.{numberOctets, tableOf, foundIn}
 use Rattle.rows.proofs.Rows.{rows-inside}
 use borrow.Author.Needs.{needs}
@@ -19,9 +17,7 @@ least-requires : tie.Need-least-requires
 least-requires c κs = search needs
 
 search-requires : tie.Need-search-requires
-search-requires c κs =
-    let a = c .before .before .args in
-    (omega arith, rows-inside (numberOctets + a .rest) (length (a .rows .now)) (a .count) _ (c .least .ensures))
+search-requires c κs = search (rows-inside, needs)
 
 returns : tie.Need-returns
 returns c =

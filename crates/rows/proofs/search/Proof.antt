@@ -9,6 +9,7 @@ use Rattle.lists.proofs.Leading.{leading-zero}
 use Rattle.octets.proofs.Parts.{row-below}
 use Rattle.rows.specs.Rows.{tableOf, otherNumber}
 use Rattle.rows.proofs.Finding.{search-on, search-hit, search-miss}
+use borrow.Author.Needs.{needs}
 use Rattle.rows.proofs.search.Statement.{statement}
 use Rattle.rows.proofs.search.Tie as tie
 
@@ -35,7 +36,7 @@ first c =
     (search-on _ _ _ (c .before .before .before .before .before .args .used) _ (c .before .before .before .loop .inv .1) (omega arith) _ (c .before .number-in .ensures) (c .if1 .left))
 
 loop-holds : tie.Need-loop-holds Inv-loop μ-loop
-loop-holds c = (omega arith, leading-zero (otherNumber (tableOf (c .before .args .width) (c .before .args .rows .now)) (c .before .args .number)))
+loop-holds c = search (leading-zero, needs)
 
 sub-loop : tie.Need-sub-loop Inv-loop μ-loop
 sub-loop c = omega arith
@@ -85,7 +86,7 @@ number-in-requires-3 c κs =
     omega (arith, c .before .before .before .before .pre .0, inside (c .before .before) (c .before .before .loop .i) (c .if3 .taken))
 
 returns-3 : tie.Need-returns-3 Inv-loop μ-loop
-returns-3 c = search-hit _ _ _ _ _ (c .before .before .before .before .loop .inv .1) (c .before .before .if3 .taken) _ (c .before .number-in3 .ensures) (c .if4 .taken)
+returns-3 c = search search-hit
 
 returns-4 : tie.Need-returns-4 Inv-loop μ-loop
 returns-4 c =
@@ -94,28 +95,10 @@ returns-4 c =
     (omega arith) (omega arith)
 
 returns-5 : tie.Need-returns-5 Inv-loop μ-loop
-returns-5 c = search-miss _ _ _ _ _ (c .before .before .loop .inv .1) (c .if3 .left) (c .before .before .loop .inv .0)
+returns-5 c = search search-miss
 
 pub search-spec : {M : Type 1} → statement M
 search-spec =
     tie.close
-    (tie.spec
-    Inv-loop
-    μ-loop
-    loop-holds
-    sub-loop
-    mul-number-in
-    number-in-requires
-    returns
-    add-next
-    mul-number-in-2
-    number-in-requires-2
-    returns-2
-    add-i
-    loop-less
-    loop-again
-    mul-number-in-3
-    number-in-requires-3
-    returns-3
-    returns-4
-    returns-5)
+    (tie.spec Inv-loop μ-loop loop-holds sub-loop mul-number-in number-in-requires returns add-next mul-number-in-2
+    number-in-requires-2 returns-2 add-i loop-less loop-again mul-number-in-3 number-in-requires-3 returns-3 returns-4 returns-5)

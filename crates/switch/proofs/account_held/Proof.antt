@@ -34,13 +34,5 @@ returns c = search held-by
 pub account-held-spec : {M : Type 1} → statement M
 account-held-spec =
     tie.close
-    (tie.spec
-    mul-row
-    add-terms-at
-    sub-terms-at
-    part-terms-at-start
-    part-terms-at-end
-    terms-at-requires
-    credit-at-requires
-    last-at-requires
-    returns)
+    (tie.spec mul-row add-terms-at sub-terms-at part-terms-at-start part-terms-at-end terms-at-requires credit-at-requires
+    last-at-requires returns)

@@ -48,17 +48,5 @@ returns-4 c =
 pub decide-spec : {M : Type 1} → statement M
 decide-spec =
     tie.close
-    (tie.spec
-    sound-requires
-    refused-requires
-    returns
-    capacity-requires
-    refused-requires-2
-    returns-2
-    port-code-requires
-    refused-requires-3
-    returns-3
-    cost-requires
-    judge-requires
-    verdict-of-requires
-    returns-4)
+    (tie.spec sound-requires refused-requires returns capacity-requires refused-requires-2 returns-2 port-code-requires
+    refused-requires-3 returns-3 cost-requires judge-requires verdict-of-requires returns-4)

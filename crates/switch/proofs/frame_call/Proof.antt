@@ -20,10 +20,10 @@ cast-a : tie.Need-cast-a
 cast-a c = search needs
 
 returns : tie.Need-returns
-returns c = call-unused _ _ _ _ (c .before .before .before .before .before .find-link .ensures) _ (c .before .before .before .link .given .1) _ (c .before .before .before .before .before .before .in-use .ensures) (c .if1 .taken)
+returns c = search call-unused
 
 account-held-requires : tie.Need-account-held-requires
-account-held-requires c κs = used-row _ _ _ _ _ _ (c .before .before .before .before .before .before .before .before .in-use .ensures) (c .before .before .if1 .left)
+account-held-requires c κs = search used-row
 
 decide-requires : tie.Need-decide-requires
 decide-requires c κs = search link-sized
@@ -55,20 +55,5 @@ returns-3 c = call-stored _ _ _ _ (c .before .before .before .before .before .be
 pub frame-call-spec : {M : Type 1} → statement M
 frame-call-spec =
     tie.close
-    (tie.spec
-    in-use-requires
-    find-link-requires
-    enum-known-code
-    enum-known-link
-    cast-a
-    returns
-    account-held-requires
-    decide-requires
-    mul-credits
-    slice-write-credits
-    mul-lasts
-    slice-write-lasts
-    returns-2
-    same-length
-    same-length-2
-    returns-3)
+    (tie.spec in-use-requires find-link-requires enum-known-code enum-known-link cast-a returns account-held-requires
+    decide-requires mul-credits slice-write-credits mul-lasts slice-write-lasts returns-2 same-length same-length-2 returns-3)

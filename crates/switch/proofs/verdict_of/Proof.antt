@@ -30,12 +30,5 @@ returns-4 c = rw (c .before .outcome4 .given .1)
 pub verdict-of-spec : {M : Type 1} → statement M
 verdict-of-spec =
     tie.close
-    (tie.spec
-    enum-known-outcome
-    enum-known-outcome-2
-    enum-known-outcome-3
-    enum-known-outcome-4
-    returns
-    returns-2
-    returns-3
+    (tie.spec enum-known-outcome enum-known-outcome-2 enum-known-outcome-3 enum-known-outcome-4 returns returns-2 returns-3
     returns-4)

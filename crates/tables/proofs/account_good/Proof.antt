@@ -1,5 +1,4 @@
 -- `account_good`: the account read at its row. Assumes nothing.
-use Rattle.rows.specs.Rows.{rowsBy}
 use Rattle.tables.proofs.Rules.{account-row}
 use borrow.Author.Needs.{needs}
 use Rattle.tables.proofs.account_good.Statement.{statement}
@@ -15,7 +14,7 @@ in-limits-requires : tie.Need-in-limits-requires
 in-limits-requires c κs = search needs
 
 returns : tie.Need-returns
-returns c = account-row (rowsBy _ _) _ _ (c .before .before .row-place .ensures) _ _ (c .before .terms-at .ensures) (c .in-limits .ensures)
+returns c = search account-row
 
 pub account-good-spec : {M : Type 1} → statement M
 account-good-spec =

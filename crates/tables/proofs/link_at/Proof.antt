@@ -11,7 +11,7 @@ has-room-requires : tie.Need-has-room-requires
 has-room-requires c κs = search needs
 
 link-in-requires : tie.Need-link-in-requires
-link-in-requires c κs = fits _ _ _ _ (c .before .has-room .ensures) (c .if1 .taken)
+link-in-requires c κs = search fits
 
 returns : tie.Need-returns
 returns c = search needs
@@ -36,12 +36,5 @@ returns-2 c =
 pub link-at-spec : {M : Type 1} → statement M
 link-at-spec =
     tie.close
-    (tie.spec
-    has-room-requires
-    link-in-requires
-    returns
-    slice-aggregate-copy
-    copy-requires
-    slice-aggregate-link-in
-    link-in-requires-2
-    returns-2)
+    (tie.spec has-room-requires link-in-requires returns slice-aggregate-copy copy-requires slice-aggregate-link-in
+    link-in-requires-2 returns-2)

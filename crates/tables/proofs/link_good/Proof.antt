@@ -1,5 +1,4 @@
 -- `link_good`: the number, then the other values. Assumes nothing.
-use Rattle.rows.specs.Rows.{rowsBy}
 use Rattle.tables.proofs.Rules.{link-falls, link-row}
 use borrow.Author.Needs.{needs}
 use Rattle.tables.proofs.link_good.Statement.{statement}
@@ -9,7 +8,7 @@ number-rises-requires : tie.Need-number-rises-requires
 number-rises-requires c κs = search needs
 
 returns : tie.Need-returns
-returns c = link-falls _ _ _ _ _ (c .before .number-rises .ensures) (c .if1 .taken)
+returns c = search link-falls
 
 row-place-requires : tie.Need-row-place-requires
 row-place-requires c κs = search needs
@@ -24,16 +23,9 @@ sound-requires : tie.Need-sound-requires
 sound-requires c κs = search needs
 
 returns-2 : tie.Need-returns-2
-returns-2 c = link-row (rowsBy _ _) (rowsBy _ _) _ _ _ (c .before .before .before .before .before .number-rises .ensures) (c .before .before .before .before .if1 .left) _ _ _ _ (c .before .before .before .row-place .ensures) (c .before .before .link-at .ensures) (c .before .smax-of .ensures) (c .sound .ensures)
+returns-2 c = search link-row
 
 pub link-good-spec : {M : Type 1} → statement M
 link-good-spec =
     tie.close
-    (tie.spec
-    number-rises-requires
-    returns
-    row-place-requires
-    link-at-requires
-    smax-of-requires
-    sound-requires
-    returns-2)
+    (tie.spec number-rises-requires returns row-place-requires link-at-requires smax-of-requires sound-requires returns-2)

@@ -38,23 +38,10 @@ u16-in-requires-4 : tie.Need-u16-in-requires-4
 u16-in-requires-4 c κs = search needs
 
 returns : tie.Need-returns
-returns c =
-    link-read _ _ _ _ _ _ _ _ (c .before .before .before .before .before .u16-in .ensures) (c .before .before .before .before .octet-in .ensures) (c .before .before .before .u32-in .ensures)
-    (c .before .before .u16-in2 .ensures) (c .before .u16-in3 .ensures) (c .u16-in4 .ensures)
+returns c = search link-read
 
 pub link-in-spec : {M : Type 1} → statement M
 link-in-spec =
     tie.close
-    (tie.spec
-    u16-in-requires
-    add-octet-in
-    octet-in-requires
-    add-u32-in
-    u32-in-requires
-    add-u16-in
-    u16-in-requires-2
-    add-u16-in-2
-    u16-in-requires-3
-    add-u16-in-3
-    u16-in-requires-4
-    returns)
+    (tie.spec u16-in-requires add-octet-in octet-in-requires add-u32-in u32-in-requires add-u16-in u16-in-requires-2 add-u16-in-2
+    u16-in-requires-3 add-u16-in-3 u16-in-requires-4 returns)

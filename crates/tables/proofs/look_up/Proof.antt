@@ -18,7 +18,7 @@ mul-link-in : tie.Need-mul-link-in
 mul-link-in c = omega (arith, found-inside _ _ _ _ (c .before .before .before .find .ensures) _ (c .before .found .given .1))
 
 link-in-requires : tie.Need-link-in-requires
-link-in-requires c κs = found-inside _ _ _ _ (c .before .before .before .find .ensures) _ (c .before .found .given .1)
+link-in-requires c κs = search found-inside
 
 returns : tie.Need-returns
 returns c = search sought-absent
@@ -29,11 +29,4 @@ returns-2 c = search sought-present
 pub look-up-spec : {M : Type 1} → statement M
 look-up-spec =
     tie.close
-    (tie.spec
-    find-requires
-    enum-told
-    enum-known-found
-    mul-link-in
-    link-in-requires
-    returns
-    returns-2)
+    (tie.spec find-requires enum-told enum-known-found mul-link-in link-in-requires returns returns-2)

@@ -1,12 +1,11 @@
 -- `number_rises`: the first link, or two numbers compared. Assumes nothing.
-use Rattle.rows.specs.Rows.{rowsBy}
 use Rattle.tables.proofs.Rules.{rises-first, rises-later}
 use borrow.Author.Needs.{needs}
 use Rattle.tables.proofs.number_rises.Statement.{statement}
 use Rattle.tables.proofs.number_rises.Tie as tie
 
 returns : tie.Need-returns
-returns c = rises-first _ _ (c .if1 .taken)
+returns c = search rises-first
 
 sub-row-place : tie.Need-sub-row-place
 sub-row-place c = search needs
@@ -24,16 +23,9 @@ u16-at-requires-2 : tie.Need-u16-at-requires-2
 u16-at-requires-2 c κs = search needs
 
 returns-2 : tie.Need-returns-2
-returns-2 c = rises-later (rowsBy _ _) _ (c .before .before .before .before .if1 .left) _ _ _ _ (c .before .before .before .row-place .ensures) (c .before .before .u16-at .ensures) (c .before .row-place2 .ensures) (c .u16-at2 .ensures)
+returns-2 c = search rises-later
 
 pub number-rises-spec : {M : Type 1} → statement M
 number-rises-spec =
     tie.close
-    (tie.spec
-    returns
-    sub-row-place
-    row-place-requires
-    u16-at-requires
-    row-place-requires-2
-    u16-at-requires-2
-    returns-2)
+    (tie.spec returns sub-row-place row-place-requires u16-at-requires row-place-requires-2 u16-at-requires-2 returns-2)

@@ -7,10 +7,10 @@ use Rattle.tables.proofs.ports_sound.Statement.{statement}
 use Rattle.tables.proofs.ports_sound.Tie as tie
 
 returns : tie.Need-returns
-returns c = port-high _ _ (c .if1 .taken)
+returns c = search port-high
 
 returns-2 : tie.Need-returns-2
-returns-2 c = mask-none _ _ (c .before .if1 .left) (c .if2 .taken)
+returns-2 c = search mask-none
 
 shr-result : tie.Need-shr-result
 shr-result c = search needs

@@ -4,13 +4,13 @@ use Rattle.tables.proofs.sizes_sound.Statement.{statement}
 use Rattle.tables.proofs.sizes_sound.Tie as tie
 
 returns : tie.Need-returns
-returns c = size-low _ _ _ (c .if1 .taken)
+returns c = search size-low
 
 returns-2 : tie.Need-returns-2
-returns-2 c = sizes-turned _ _ _ (c .before .if1 .left) (c .if2 .taken)
+returns-2 c = search sizes-turned
 
 returns-3 : tie.Need-returns-3
-returns-3 c = sizes-tested _ _ _ (c .before .if1 .left) (c .if2 .left)
+returns-3 c = search sizes-tested
 
 pub sizes-sound-spec : {M : Type 1} → statement M
 sizes-sound-spec = tie.close (tie.spec returns returns-2 returns-3)

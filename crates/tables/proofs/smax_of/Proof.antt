@@ -1,5 +1,4 @@
 -- `smax_of`: the first two octets of the account's row. Assumes nothing.
-use Rattle.rows.specs.Rows.{rowsBy}
 use Rattle.tables.proofs.Rules.{smax-row}
 use borrow.Author.Needs.{needs}
 use Rattle.tables.proofs.smax_of.Statement.{statement}
@@ -12,7 +11,7 @@ u16-at-requires : tie.Need-u16-at-requires
 u16-at-requires c κs = search needs
 
 returns : tie.Need-returns
-returns c = smax-row (rowsBy _ _) _ _ (c .before .row-place .ensures) _ (c .u16-at .ensures)
+returns c = search smax-row
 
 pub smax-of-spec : {M : Type 1} → statement M
 smax-of-spec = tie.close (tie.spec row-place-requires u16-at-requires returns)

@@ -11,7 +11,7 @@ has-room-requires : tie.Need-has-room-requires
 has-room-requires c κs = search needs
 
 terms-in-requires : tie.Need-terms-in-requires
-terms-in-requires c κs = fits _ _ _ _ (c .before .has-room .ensures) (c .if1 .taken)
+terms-in-requires c κs = search fits
 
 returns : tie.Need-returns
 returns c = search needs
@@ -34,12 +34,5 @@ returns-2 c = c .terms-in2 .ensures ∙ terms-laid _ _ _ _ (omega arith) (c .bef
 pub terms-at-spec : {M : Type 1} → statement M
 terms-at-spec =
     tie.close
-    (tie.spec
-    has-room-requires
-    terms-in-requires
-    returns
-    slice-aggregate-copy
-    copy-requires
-    slice-aggregate-terms-in
-    terms-in-requires-2
-    returns-2)
+    (tie.spec has-room-requires terms-in-requires returns slice-aggregate-copy copy-requires slice-aggregate-terms-in
+    terms-in-requires-2 returns-2)

@@ -31,12 +31,5 @@ returns c = search terms-read
 pub terms-in-spec : {M : Type 1} → statement M
 terms-in-spec =
     tie.close
-    (tie.spec
-    u16-in-requires
-    add-octet-in
-    octet-in-requires
-    add-u16-in
-    u16-in-requires-2
-    add-octet-in-2
-    octet-in-requires-2
+    (tie.spec u16-in-requires add-octet-in octet-in-requires add-u16-in u16-in-requires-2 add-octet-in-2 octet-in-requires-2
     returns)

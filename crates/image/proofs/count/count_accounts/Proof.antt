@@ -18,14 +18,14 @@ abbrev μ-loop : tie.MeasureT-loop
 μ-loop image i₀ i = maxAccounts - i
 
 loop-holds : tie.Need-loop-holds Inv-loop μ-loop
-loop-holds c = (omega arith, leading-zero (λ k. goodField (c .before .args .image .now) accountTag k 0))
+loop-holds c = search (leading-zero, needs)
 
 good-account-requires : tie.Need-good-account-requires Inv-loop μ-loop
 good-account-requires c κs = c .loop-test .taken
 
 returns : tie.Need-returns Inv-loop μ-loop
 unfolding accountCount
-returns c = count-stops (λ k. goodField (c .before .before .before .before .before .args .image .now) accountTag k 0) _ (c .before .before .before .loop .inv .1) _ (c .before .good-account .ensures) maxAccounts (c .before .before .loop-test .taken) (c .if1 .taken)
+returns c = search count-stops
 
 add-i : tie.Need-add-i Inv-loop μ-loop
 add-i c = omega arith
@@ -41,18 +41,9 @@ loop-again c = (
 
 returns-2 : tie.Need-returns-2 Inv-loop μ-loop
 unfolding accountCount
-returns-2 c = count-full (λ k. goodField (c .before .before .before .args .image .now) accountTag k 0) _ maxAccounts (c .before .loop .inv .1) (c .loop-test .left) (c .before .loop .inv .0)
+returns-2 c = search count-full
 
 pub count-accounts-spec : {M : Type 1} → statement M
 count-accounts-spec =
     tie.close
-    (tie.spec
-    Inv-loop
-    μ-loop
-    loop-holds
-    good-account-requires
-    returns
-    add-i
-    loop-less
-    loop-again
-    returns-2)
+    (tie.spec Inv-loop μ-loop loop-holds good-account-requires returns add-i loop-less loop-again returns-2)

@@ -9,6 +9,7 @@ use Rattle.lists.proofs.Leading.{leading-zero, count-stops, count-goes-on, coun
 use Rattle.layout.specs.Layout.{linkTag, maxLinks}
 use Rattle.image.specs.Read.{goodField, linkCount}
 use Rattle.image.proofs.Passing.{links-none}
+use borrow.Author.Needs.{needs}
 use Rattle.image.proofs.count.count_links.Statement.{statement}
 use Rattle.image.proofs.count.count_links.Tie as tie
 
@@ -23,19 +24,17 @@ abbrev tested : tie.At-loop Inv-loop μ-loop → ℕ → Bool
 tested c = goodField (c .before .before .before .args .image .now) linkTag (c .before .before .before .args .accounts)
 
 returns : tie.Need-returns Inv-loop μ-loop
-returns c = links-none (c .before .before .args .image .now) _ (c .if1 .taken)
+returns c = search links-none
 
 loop-holds : tie.Need-loop-holds Inv-loop μ-loop
-loop-holds c = (omega arith, leading-zero (λ k. goodField (c .before .before .args .image .now) linkTag (c .before .before .args .accounts) k))
+loop-holds c = search (leading-zero, needs)
 
 good-link-requires : tie.Need-good-link-requires Inv-loop μ-loop
 good-link-requires c κs = let z = c .before .before .if1 .left in (omega arith, c .loop-test .taken)
 
 returns-2 : tie.Need-returns-2 Inv-loop μ-loop
 unfolding linkCount
-returns-2 c =
-    count-stops (tested (c .before .before .before)) _ (c .before .before .before .loop .inv .1) _ (c .before .good-link .ensures)
-    maxLinks (c .before .before .loop-test .taken) (c .if2 .taken)
+returns-2 c = search count-stops
 
 add-j : tie.Need-add-j Inv-loop μ-loop
 add-j c = omega arith
@@ -52,19 +51,9 @@ loop-again c = (
 
 returns-3 : tie.Need-returns-3 Inv-loop μ-loop
 unfolding linkCount
-returns-3 c = count-full (tested (c .before)) _ maxLinks (c .before .loop .inv .1) (c .loop-test .left) (c .before .loop .inv .0)
+returns-3 c = search count-full
 
 pub count-links-spec : {M : Type 1} → statement M
 count-links-spec =
     tie.close
-    (tie.spec
-    Inv-loop
-    μ-loop
-    returns
-    loop-holds
-    good-link-requires
-    returns-2
-    add-j
-    loop-less
-    loop-again
-    returns-3)
+    (tie.spec Inv-loop μ-loop returns loop-holds good-link-requires returns-2 add-j loop-less loop-again returns-3)

@@ -14,7 +14,7 @@ refused-requires : tie.Need-refused-requires
 refused-requires c κs = search needs
 
 returns : tie.Need-returns
-returns c = end-refused _ _ _ _ (c .before .before .before .next-code .ensures) (c .before .before .if1 .taken) _ _ (c .before .field-place .ensures) (c .refused .ensures)
+returns c = search end-refused
 
 data-place-requires : tie.Need-data-place-requires
 data-place-requires c κs = search needs
@@ -23,24 +23,16 @@ refused-requires-2 : tie.Need-refused-requires-2
 refused-requires-2 c κs = search needs
 
 returns-2 : tie.Need-returns-2
-returns-2 c = end-surplus _ _ _ _ (c .before .before .before .before .next-code .ensures) (c .before .before .before .if1 .left) _ (c .before .before .data-place .ensures) (c .before .if2 .taken) _ (c .refused2 .ensures)
+returns-2 c = search end-surplus
 
 u32-at-requires : tie.Need-u32-at-requires
 u32-at-requires c κs = search needs
 
 returns-3 : tie.Need-returns-3
-returns-3 c = end-accepted _ _ _ _ (c .before .before .before .before .next-code .ensures) (c .before .before .before .if1 .left) _ (c .before .before .data-place .ensures) (c .before .if2 .left) _ (c .u32-at .ensures)
+returns-3 c = search end-accepted
 
 pub read-end-spec : {M : Type 1} → statement M
 read-end-spec =
     tie.close
-    (tie.spec
-    next-code-requires
-    field-place-requires
-    refused-requires
-    returns
-    data-place-requires
-    refused-requires-2
-    returns-2
-    u32-at-requires
-    returns-3)
+    (tie.spec next-code-requires field-place-requires refused-requires returns data-place-requires refused-requires-2 returns-2
+    u32-at-requires returns-3)

@@ -4,13 +4,13 @@ use Rattle.image.proofs.field.data_octets.Statement.{statement}
 use Rattle.image.proofs.field.data_octets.Tie as tie
 
 returns : tie.Need-returns
-returns c = octets-account _ (c .if1 .taken)
+returns c = search octets-account
 
 returns-2 : tie.Need-returns-2
-returns-2 c = octets-link _ (c .before .if1 .left) (c .if2 .taken)
+returns-2 c = search octets-link
 
 returns-3 : tie.Need-returns-3
-returns-3 c = octets-end _ (c .before .if1 .left) (c .if2 .left)
+returns-3 c = search octets-end
 
 pub data-octets-spec : {M : Type 1} → statement M
 data-octets-spec = tie.close (tie.spec returns returns-2 returns-3)

@@ -13,7 +13,7 @@ stands-requires : tie.Need-stands-requires
 stands-requires c κs = search needs
 
 returns : tie.Need-returns
-returns c = account-unlike _ _ _ (c .before .before .field-place .ensures) _ (c .before .stands .ensures) (c .if1 .taken)
+returns c = search account-unlike
 
 add-row : tie.Need-add-row
 add-row c = omega (arith, inside _ _ _ _ _ (c .before .stands .ensures) (c .if1 .left))
@@ -37,22 +37,10 @@ in-limits-requires : tie.Need-in-limits-requires
 in-limits-requires c κs = search needs
 
 returns-2 : tie.Need-returns-2
-returns-2 c =
-    account-valued _ _ _ (c .before .before .before .before .before .field-place .ensures) _ (c .before .before .before .before .stands .ensures) (c .before .before .before .if1 .left) (c .before .before .before .before .before .before .before .pre) _
-    (account-values _ _ _ (c .before .before .before .before .before .field-place .ensures) _ (c .before .terms-at .ensures) _ (c .in-limits .ensures))
+returns-2 c = search (account-valued, account-values)
 
 pub good-account-spec : {M : Type 1} → statement M
 good-account-spec =
     tie.close
-    (tie.spec
-    field-place-requires
-    stands-requires
-    returns
-    add-row
-    add-terms-at
-    sub-terms-at
-    part-terms-at-start
-    part-terms-at-end
-    terms-at-requires
-    in-limits-requires
-    returns-2)
+    (tie.spec field-place-requires stands-requires returns add-row add-terms-at sub-terms-at part-terms-at-start part-terms-at-end
+    terms-at-requires in-limits-requires returns-2)

@@ -1,9 +1,8 @@
 -- `good_link`: a field that stands whole, then its number and its values. Assumes nothing.
-use mathlib.Core.Path.{ap, _∙_}
+use mathlib.Core.Path.{ap}
 use native.Mathlib.Omega.{arith}
 use Rattle.tables.specs.declared.Link.{Link}
 use Rattle.tables.proofs.Rules.{link-falls, link-values}
-use Rattle.image.specs.Read.{accountFields, linkFields}
 use Rattle.image.proofs.Passing.{link-unlike, link-valued}
 use Rattle.image.proofs.Values.{inside, link-in}
 use borrow.Author.Needs.{needs}
@@ -17,7 +16,7 @@ stands-requires : tie.Need-stands-requires
 stands-requires c κs = search needs
 
 returns : tie.Need-returns
-returns c = link-unlike _ _ _ _ (c .before .before .field-place .ensures) _ (c .before .stands .ensures) (c .if1 .taken)
+returns c = search link-unlike
 
 add-row : tie.Need-add-row
 add-row c = omega (arith, inside _ _ _ _ _ (c .before .stands .ensures) (c .if1 .left))
@@ -41,10 +40,7 @@ number-rises-requires : tie.Need-number-rises-requires
 number-rises-requires c κs = ap (λ (l : Link). l .number) (link-in _ _ _ _ (c .before .before .before .before .field-place .ensures) _ (c .link-at .ensures))
 
 returns-2 : tie.Need-returns-2
-returns-2 c =
-    let a = c .before .before .before .before .before .before .before .before .args in
-    link-valued _ _ _ _ (c .before .before .before .before .before .before .field-place .ensures) _ (c .before .before .before .before .before .stands .ensures) (c .before .before .before .before .if1 .left) (c .before .before .before .before .before .before .before .before .pre .0) (c .before .before .before .before .before .before .before .before .pre .1) _
-    (link-falls (accountFields (a .image .now)) (linkFields (a .image .now) (a .accounts)) _ _ _ (c .before .number-rises .ensures) (c .if2 .taken))
+returns-2 c = search (link-valued, link-falls)
 
 smax-of-requires : tie.Need-smax-of-requires
 smax-of-requires c κs = search needs
@@ -53,27 +49,10 @@ sound-requires : tie.Need-sound-requires
 sound-requires c κs = search needs
 
 returns-3 : tie.Need-returns-3
-returns-3 c =
-    let a = c .before .before .before .before .before .before .before .before .before .before .args in
-    link-valued _ _ _ _ (c .before .before .before .before .before .before .before .before .field-place .ensures) _ (c .before .before .before .before .before .before .before .stands .ensures) (c .before .before .before .before .before .before .if1 .left) (c .before .before .before .before .before .before .before .before .before .before .pre .0) (c .before .before .before .before .before .before .before .before .before .before .pre .1) _
-    (link-values (accountFields (a .image .now)) (linkFields (a .image .now) (a .accounts)) _ _ _ (c .before .before .before .number-rises .ensures) (c .before .before .if2 .left)
-    _ _ _ (link-in _ _ _ _ (c .before .before .before .before .before .before .before .before .field-place .ensures) _ (c .before .before .before .before .link-at .ensures)) (c .before .smax-of .ensures) (c .sound .ensures))
+returns-3 c = search (link-valued, link-values, link-in)
 
 pub good-link-spec : {M : Type 1} → statement M
 good-link-spec =
     tie.close
-    (tie.spec
-    field-place-requires
-    stands-requires
-    returns
-    add-row
-    add-link-at
-    sub-link-at
-    part-link-at-start
-    part-link-at-end
-    link-at-requires
-    number-rises-requires
-    returns-2
-    smax-of-requires
-    sound-requires
-    returns-3)
+    (tie.spec field-place-requires stands-requires returns add-row add-link-at sub-link-at part-link-at-start part-link-at-end
+    link-at-requires number-rises-requires returns-2 smax-of-requires sound-requires returns-3)

@@ -14,7 +14,7 @@ field-code-requires : tie.Need-field-code-requires
 field-code-requires c κs = search needs
 
 returns : tie.Need-returns
-returns c = head-is _ _ _ _ (c .before .before .before .read .ensures) (c .before .before .head-good .ensures) (c .field-code .ensures)
+returns c = search head-is
 
 pub head-code-spec : {M : Type 1} → statement M
 head-code-spec = tie.close (tie.spec read-requires head-good-requires field-code-requires returns)

@@ -8,7 +8,7 @@ octet-at-requires : tie.Need-octet-at-requires
 octet-at-requires c κs = search needs
 
 returns : tie.Need-returns
-returns c = edition-bad _ _ (c .before .octet-at .ensures) (c .if1 .taken)
+returns c = search edition-bad
 
 u32-at-requires : tie.Need-u32-at-requires
 u32-at-requires c κs = search needs
@@ -17,7 +17,7 @@ constant-good-requires : tie.Need-constant-good-requires
 constant-good-requires c κs = search needs
 
 returns-2 : tie.Need-returns-2
-returns-2 c = constant-left _ _ (c .before .before .before .octet-at .ensures) (c .before .before .if1 .left) _ (c .before .u32-at .ensures) _ (c .constant-good .ensures)
+returns-2 c = search constant-left
 
 pub head-good-spec : {M : Type 1} → statement M
 head-good-spec =

@@ -4,16 +4,16 @@ use Rattle.image.proofs.field.in_order.Statement.{statement}
 use Rattle.image.proofs.field.in_order.Tie as tie
 
 returns : tie.Need-returns
-returns c = order-first _ _ _ (c .if1 .taken)
+returns c = search order-first
 
 returns-2 : tie.Need-returns-2
-returns-2 c = order-link _ _ _ (c .before .if1 .left) (c .if2 .taken)
+returns-2 c = search order-link
 
 returns-3 : tie.Need-returns-3
-returns-3 c = order-account _ _ _ (c .before .before .if1 .left) (c .before .if2 .left) (c .if3 .taken)
+returns-3 c = search order-account
 
 returns-4 : tie.Need-returns-4
-returns-4 c = order-end _ _ _ (c .before .before .if1 .left) (c .before .if2 .left) (c .if3 .left)
+returns-4 c = search order-end
 
 pub in-order-spec : {M : Type 1} → statement M
 in-order-spec = tie.close (tie.spec returns returns-2 returns-3 returns-4)

@@ -26,19 +26,10 @@ field-code-requires : tie.Need-field-code-requires
 field-code-requires c κs = search needs
 
 returns : tie.Need-returns
-returns c =
-    next-is _ _ _ _ _ (c .before .before .before .before .before .before .field-place .ensures) (c .before .before .before .before .before .read .ensures) _ _ _ _ _
-    (c .before .before .before .before .in-order .ensures) (c .before .before .before .is-full .ensures) (c .before .before .values-good .ensures) (c .before .data-octets .ensures) (c .field-code .ensures)
+returns c = search next-is
 
 pub next-code-spec : {M : Type 1} → statement M
 next-code-spec =
     tie.close
-    (tie.spec
-    field-place-requires
-    read-requires
-    in-order-requires
-    is-full-requires
-    values-good-requires
-    data-octets-requires
-    field-code-requires
-    returns)
+    (tie.spec field-place-requires read-requires in-order-requires is-full-requires values-good-requires data-octets-requires
+    field-code-requires returns)

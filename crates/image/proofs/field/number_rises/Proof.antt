@@ -1,13 +1,12 @@
 -- `number_rises`: the first link, or two numbers compared. Assumes nothing.
 use Rattle.tables.proofs.Rules.{rises-first}
-use Rattle.image.specs.Read.{linkFields}
 use Rattle.image.proofs.Values.{rises-above}
 use borrow.Author.Needs.{needs}
 use Rattle.image.proofs.field.number_rises.Statement.{statement}
 use Rattle.image.proofs.field.number_rises.Tie as tie
 
 returns : tie.Need-returns
-returns c = let a = c .before .before .args in rises-first (linkFields (a .image .now) (a .accounts)) _ (c .if1 .taken)
+returns c = search rises-first
 
 sub-data-place : tie.Need-sub-data-place
 sub-data-place c = search needs
@@ -19,7 +18,7 @@ u16-at-requires : tie.Need-u16-at-requires
 u16-at-requires c κs = search needs
 
 returns-2 : tie.Need-returns-2
-returns-2 c = rises-above _ _ _ (c .before .before .if1 .left) _ _ _ (c .before .data-place .ensures) (c .u16-at .ensures) (c .before .before .before .before .pre)
+returns-2 c = search rises-above
 
 pub number-rises-spec : {M : Type 1} → statement M
 number-rises-spec =

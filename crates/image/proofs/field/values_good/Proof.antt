@@ -38,17 +38,10 @@ returns-2 c =
     ∙ values-link _ _ _ _ (c .before .before .before .before .if1 .left) (c .before .before .before .if2 .taken)
 
 returns-3 : tie.Need-returns-3
-returns-3 c = values-end _ _ _ _ (c .before .if1 .left) (c .if2 .left)
+returns-3 c = search values-end
 
 pub values-good-spec : {M : Type 1} → statement M
 values-good-spec =
     tie.close
-    (tie.spec
-    account-fields-requires
-    account-good-requires
-    returns
-    account-fields-requires-2
-    link-fields-requires
-    link-good-requires
-    returns-2
-    returns-3)
+    (tie.spec account-fields-requires account-good-requires returns account-fields-requires-2 link-fields-requires
+    link-good-requires returns-2 returns-3)

@@ -26,7 +26,7 @@ judged c =
     c .account-good .ensures ∙ ap (λ (p : Spacing). accountGood (rowsBy (c .before .before .before .before .before .args .accounts .now) p) (c .before .before .before .loop .i)) (c .before .account-rows .ensures)
 
 loop-holds : tie.Need-loop-holds Inv-loop μ-loop
-loop-holds c = (omega arith, leading-zero (accountGood (accountTable (c .before .args .accounts .now))))
+loop-holds c = search (leading-zero, needs)
 
 account-rows-requires : tie.Need-account-rows-requires Inv-loop μ-loop
 account-rows-requires c κs = search needs
@@ -35,7 +35,7 @@ account-good-requires : tie.Need-account-good-requires Inv-loop μ-loop
 account-good-requires c κs = search needs
 
 returns : tie.Need-returns Inv-loop μ-loop
-returns c = count-stops (accountGood (accountTable (c .before .before .before .before .before .before .args .accounts .now))) _ (c .before .before .before .before .loop .inv .1) _ (judged (c .before)) _ (c .before .before .before .loop-test .taken) (c .if1 .taken)
+returns c = search (count-stops, judged)
 
 add-i : tie.Need-add-i Inv-loop μ-loop
 add-i c = omega arith
@@ -50,19 +50,9 @@ loop-again c = (
 )
 
 returns-2 : tie.Need-returns-2 Inv-loop μ-loop
-returns-2 c = count-full (accountGood (accountTable (c .before .before .before .args .accounts .now))) _ _ (c .before .loop .inv .1) (c .loop-test .left) (c .before .loop .inv .0)
+returns-2 c = search count-full
 
 pub bad-account-spec : {M : Type 1} → statement M
 bad-account-spec =
     tie.close
-    (tie.spec
-    Inv-loop
-    μ-loop
-    loop-holds
-    account-rows-requires
-    account-good-requires
-    returns
-    add-i
-    loop-less
-    loop-again
-    returns-2)
+    (tie.spec Inv-loop μ-loop loop-holds account-rows-requires account-good-requires returns add-i loop-less loop-again returns-2)

@@ -27,7 +27,7 @@ judged c =
     ∙ ap₂ (λ (p q : Spacing). linkGood (rowsBy (a .accounts .now) p) (rowsBy (a .links .now) q) (a .n) (c .before .before .before .before .loop .j)) (c .before .before .account-rows .ensures) (c .before .link-rows .ensures)
 
 loop-holds : tie.Need-loop-holds Inv-loop μ-loop
-loop-holds c = (omega arith, leading-zero (linkGood (accountTable (c .before .before .args .accounts .now)) (linkTable (c .before .before .args .links .now)) (c .before .before .args .n)))
+loop-holds c = search (leading-zero, needs)
 
 account-rows-requires : tie.Need-account-rows-requires Inv-loop μ-loop
 account-rows-requires c κs = search needs
@@ -39,7 +39,7 @@ link-good-requires : tie.Need-link-good-requires Inv-loop μ-loop
 link-good-requires c κs = search needs
 
 returns : tie.Need-returns Inv-loop μ-loop
-returns c = count-stops (linkGood (accountTable (c .before .before .before .before .before .before .before .before .args .accounts .now)) (linkTable (c .before .before .before .before .before .before .before .before .args .links .now)) (c .before .before .before .before .before .before .before .before .args .n)) _ (c .before .before .before .before .before .loop .inv .1) _ (judged (c .before)) _ (c .before .before .before .before .loop-test .taken) (c .if1 .taken)
+returns c = search (count-stops, judged)
 
 add-j : tie.Need-add-j Inv-loop μ-loop
 add-j c = omega arith
@@ -54,20 +54,10 @@ loop-again c = (
 )
 
 returns-2 : tie.Need-returns-2 Inv-loop μ-loop
-returns-2 c = count-full (linkGood (accountTable (c .before .before .before .before .args .accounts .now)) (linkTable (c .before .before .before .before .args .links .now)) (c .before .before .before .before .args .n)) _ _ (c .before .loop .inv .1) (c .loop-test .left) (c .before .loop .inv .0)
+returns-2 c = search count-full
 
 pub bad-link-spec : {M : Type 1} → statement M
 bad-link-spec =
     tie.close
-    (tie.spec
-    Inv-loop
-    μ-loop
-    loop-holds
-    account-rows-requires
-    link-rows-requires
-    link-good-requires
-    returns
-    add-j
-    loop-less
-    loop-again
-    returns-2)
+    (tie.spec Inv-loop μ-loop loop-holds account-rows-requires link-rows-requires link-good-requires returns add-j loop-less
+    loop-again returns-2)

@@ -9,7 +9,7 @@ constant-good-requires : tie.Need-constant-good-requires
 constant-good-requires c κs = search needs
 
 returns : tie.Need-returns
-returns c = constant-bad _ _ (c .before .constant-good .ensures) (c .if1 .taken)
+returns c = search constant-bad
 
 bad-account-requires : tie.Need-bad-account-requires
 bad-account-requires c κs = search needs
@@ -19,7 +19,7 @@ field-place-requires c κs = search needs
 
 returns-2 : tie.Need-returns-2
 unfolding badAccount
-returns-2 c = account-bad _ _ (c .before .before .before .before .constant-good .ensures) (c .before .before .before .if1 .left) _ (c .before .before .bad-account .ensures) (c .before .if2 .taken) _ (c .field-place .ensures)
+returns-2 c = search account-bad
 
 bad-link-requires : tie.Need-bad-link-requires
 bad-link-requires c κs = search needs
@@ -29,26 +29,17 @@ field-place-requires-2 c κs = search needs
 
 returns-3 : tie.Need-returns-3
 unfolding badAccount badLink
-returns-3 c = link-bad _ _ (c .before .before .before .before .before .before .constant-good .ensures) (c .before .before .before .before .before .if1 .left) _ (c .before .before .before .before .bad-account .ensures) (c .before .before .before .if2 .left) _ (c .before .before .bad-link .ensures) (c .before .if3 .taken) _ (c .field-place2 .ensures)
+returns-3 c = search link-bad
 
 data-place-requires : tie.Need-data-place-requires
 data-place-requires c κs = search needs
 
 returns-4 : tie.Need-returns-4
 unfolding badAccount badLink
-returns-4 c = all-good _ _ (c .before .before .before .before .before .before .constant-good .ensures) (c .before .before .before .before .before .if1 .left) _ (c .before .before .before .before .bad-account .ensures) (c .before .before .before .if2 .left) _ (c .before .before .bad-link .ensures) (c .before .if3 .left) _ (c .data-place .ensures)
+returns-4 c = search all-good
 
 pub value-answer-spec : {M : Type 1} → statement M
 value-answer-spec =
     tie.close
-    (tie.spec
-    constant-good-requires
-    returns
-    bad-account-requires
-    field-place-requires
-    returns-2
-    bad-link-requires
-    field-place-requires-2
-    returns-3
-    data-place-requires
-    returns-4)
+    (tie.spec constant-good-requires returns bad-account-requires field-place-requires returns-2 bad-link-requires
+    field-place-requires-2 returns-3 data-place-requires returns-4)

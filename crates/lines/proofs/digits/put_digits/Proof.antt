@@ -3,7 +3,7 @@
 use Prim.Native.Nat.{_+_, _-_, _≤_}
 use mathlib.Core.Path.{_≡_, refl}
 use native.Mathlib.Omega.{arith}
-use lib.ListN.{length, length-set}
+use lib.ListN.{length}
 use borrow.Author.Needs.{needs}
 use Rattle.octets.specs.Runs.{put}
 use Rattle.octets.proofs.Runs.{put-refused}
@@ -28,7 +28,7 @@ has-room-requires : tie.Need-has-room-requires Inv-loop μ-loop
 has-room-requires c κs = search needs
 
 returns : tie.Need-returns Inv-loop μ-loop
-returns c = put-refused _ _ _ _ _ (c .before .has-room .ensures) (length-digits _ _) (c .if1 .taken)
+returns c = search (put-refused, length-digits)
 
 loop-holds : tie.Need-loop-holds Inv-loop μ-loop
 loop-holds c =
@@ -55,36 +55,16 @@ loop-less : tie.Need-loop-less Inv-loop μ-loop
 loop-less c = omega arith
 
 loop-again : tie.Need-loop-again Inv-loop μ-loop
-loop-again c =
-    let l = c .before .loop in
-    let h = room (c .before .before) in (
-      omega arith,
-      lay-digit _ _ _ _ (c .loop-test .taken) (l .inv .0) (l .inv .2) _ _ _ h (l .inv .1),
-      lay-rest _ _ _ _ (c .loop-test .taken) (l .inv .0) (l .inv .2),
-      simp length-set (l .inv .3),
-    )
+loop-again c = search (room, lay-digit, lay-rest, needs)
 
 same-length : tie.Need-same-length Inv-loop μ-loop
-same-length c = c .before .loop .inv .3
+same-length c = search needs
 
 returns-2 : tie.Need-returns-2 Inv-loop μ-loop
-returns-2 c = lay-all _ _ _ _ _ _ (c .before .loop .inv .1) (c .loop-test .left)
+returns-2 c = search lay-all
 
 pub put-digits-spec : {M : Type 1} → statement M
 put-digits-spec =
     tie.close
-    (tie.spec
-    Inv-loop
-    μ-loop
-    has-room-requires
-    returns
-    loop-holds
-    sub-i
-    cast-to
-    add-to
-    add-to-2
-    slice-write-to
-    loop-less
-    loop-again
-    same-length
-    returns-2)
+    (tie.spec Inv-loop μ-loop has-room-requires returns loop-holds sub-i cast-to add-to add-to-2 slice-write-to loop-less
+    loop-again same-length returns-2)

@@ -7,6 +7,7 @@ use lib.Dec.{leb}
 use Rattle.lists.specs.Leading.{leading}
 use Rattle.lines.specs.Digits.{tensLeft, moreDigits}
 use Rattle.lines.proofs.Decimal.{tens-none, tens-next, width-start, width-on, width-stop, width-full}
+use borrow.Author.Needs.{needs}
 use Rattle.lines.proofs.digits.width.Statement.{statement}
 use Rattle.lines.proofs.digits.width.Tie as tie
 
@@ -17,7 +18,7 @@ abbrev μ-loop : tie.MeasureT-loop
 μ-loop x rest₀ k₀ rest k = moreDigits - k
 
 loop-holds : tie.Need-loop-holds Inv-loop μ-loop
-loop-holds c = (omega arith, width-start (c .args .x), tens-none (c .args .x))
+loop-holds c = search (width-start, tens-none, needs)
 
 add-result : tie.Need-add-result Inv-loop μ-loop
 add-result c = omega arith
@@ -51,14 +52,4 @@ returns-2 c =
 pub width-spec : {M : Type 1} → statement M
 width-spec =
     tie.close
-    (tie.spec
-    Inv-loop
-    μ-loop
-    loop-holds
-    add-result
-    returns
-    add-k
-    loop-less
-    loop-again
-    add-result-2
-    returns-2)
+    (tie.spec Inv-loop μ-loop loop-holds add-result returns add-k loop-less loop-again add-result-2 returns-2)

@@ -14,7 +14,7 @@ capacity-requires : tie.Need-capacity-requires
 capacity-requires c κs = search needs
 
 returns : tie.Need-returns
-returns c = capacity-read _ _ _ _ _ (c .before .before .data-place .ensures) (c .before .terms-at .ensures) (c .capacity .ensures)
+returns c = search capacity-read
 
 pub capacity-of-spec : {M : Type 1} → statement M
 capacity-of-spec =

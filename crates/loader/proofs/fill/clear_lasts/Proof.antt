@@ -46,25 +46,13 @@ loop-again : tie.Need-loop-again Inv-loop μ-loop
 loop-again c = fill-one (c .before .loop .inv) (c .loop-test .taken) (sym (zero-add _)) refl
 
 same-length : tie.Need-same-length Inv-loop μ-loop
-same-length c = c .before .loop .inv .long
+same-length c = search needs
 
 returns-2 : tie.Need-returns-2 Inv-loop μ-loop
-returns-2 c = fill-end (c .before .loop .inv) (c .loop-test .left) (same-ones _ 0)
+returns-2 c = search (fill-end, same-ones)
 
 pub clear-lasts-spec : {M : Type 1} → statement M
 clear-lasts-spec =
     tie.close
-    (tie.spec
-    Inv-loop
-    μ-loop
-    has-room-requires
-    returns
-    loop-holds
-    cast-lasts
-    mul-lasts
-    slice-write-lasts
-    add-i
-    loop-less
-    loop-again
-    same-length
-    returns-2)
+    (tie.spec Inv-loop μ-loop has-room-requires returns loop-holds cast-lasts mul-lasts slice-write-lasts add-i loop-less
+    loop-again same-length returns-2)

@@ -35,8 +35,7 @@ least-requires : tie.Need-least-requires Inv-loop μ-loop
 least-requires c κs = search needs
 
 loop-holds : tie.Need-loop-holds Inv-loop μ-loop
-loop-holds c =
-    fill-start (λ k. length-part _ _ _) (has-room _ _ _ _ (c .before .before .has-room .ensures) (c .before .if1 .left))
+loop-holds c = search (fill-start, length-part, has-room)
 
 add-at : tie.Need-add-at Inv-loop μ-loop
 add-at c = search needs
@@ -77,31 +76,13 @@ loop-again c =
     (row-clamped _ _ _ _ (s .loop .i) (s .before .least .ensures)) (c .before .before .copy .ensures)
 
 same-length : tie.Need-same-length Inv-loop μ-loop
-same-length c = c .before .loop .inv .long
+same-length c = search needs
 
 returns-2 : tie.Need-returns-2 Inv-loop μ-loop
-returns-2 c = fill-end (c .before .loop .inv) (c .loop-test .left) refl
+returns-2 c = search fill-end
 
 pub copy-rows-spec : {M : Type 1} → statement M
 copy-rows-spec =
     tie.close
-    (tie.spec
-    Inv-loop
-    μ-loop
-    mul-has-room
-    has-room-requires
-    returns
-    least-requires
-    loop-holds
-    add-at
-    cast-at
-    mul-at
-    add-at-2
-    cast-copy
-    mul-copy
-    copy-requires
-    add-i
-    loop-less
-    loop-again
-    same-length
-    returns-2)
+    (tie.spec Inv-loop μ-loop mul-has-room has-room-requires returns least-requires loop-holds add-at cast-at mul-at add-at-2
+    cast-copy mul-copy copy-requires add-i loop-less loop-again same-length returns-2)

@@ -47,26 +47,13 @@ loop-again : tie.Need-loop-again Inv-loop μ-loop
 loop-again c = fill-one (c .before .before .loop .inv) (c .before .loop-test .taken) (sym (zero-add _)) (c .capacity-of .ensures)
 
 same-length : tie.Need-same-length Inv-loop μ-loop
-same-length c = c .before .loop .inv .long
+same-length c = search needs
 
 returns-2 : tie.Need-returns-2 Inv-loop μ-loop
-returns-2 c = fill-end (c .before .loop .inv) (c .loop-test .left) refl
+returns-2 c = search fill-end
 
 pub fill-credits-spec : {M : Type 1} → statement M
 fill-credits-spec =
     tie.close
-    (tie.spec
-    Inv-loop
-    μ-loop
-    has-room-requires
-    returns
-    loop-holds
-    capacity-of-requires
-    cast-credits
-    mul-credits
-    slice-write-credits
-    add-i
-    loop-less
-    loop-again
-    same-length
-    returns-2)
+    (tie.spec Inv-loop μ-loop has-room-requires returns loop-holds capacity-of-requires cast-credits mul-credits
+    slice-write-credits add-i loop-less loop-again same-length returns-2)

@@ -55,17 +55,5 @@ returns c = (
 pub fill-runs-spec : {M : Type 1} → statement M
 fill-runs-spec =
     tie.close
-    (tie.spec
-    data-place-requires
-    cast-copy-rows
-    copy-rows-requires
-    fill-credits-requires
-    clear-lasts-requires
-    data-place-requires-2
-    cast-copy-rows-2
-    copy-rows-requires-2
-    same-length
-    same-length-2
-    same-length-3
-    same-length-4
-    returns)
+    (tie.spec data-place-requires cast-copy-rows copy-rows-requires fill-credits-requires clear-lasts-requires
+    data-place-requires-2 cast-copy-rows-2 copy-rows-requires-2 same-length same-length-2 same-length-3 same-length-4 returns)

@@ -45,7 +45,7 @@ use denote.Triple.Entry.{Args, Vals, onEntry}
 use denote.Triple.Spec.{Meets, tripleOf}
 use denote.Triple.Table.{entered, cited}
 use denote.Triple.Walked.{says, Stays, stay-ref, gave-slice, walkOf, AllGo, goes-ref, goes-gave-slice, Walks, ends-at, walked, walk-meets}
-use Rattle.loader.specs.Loading.{Loading, runsOf, loadingOf, loading}
+use Rattle.loader.specs.Loading.{runsOf, loadingOf, loading}
 use Rattle.image.specs.declared.Loaded.{Loaded}
 use Rattle.loader.specs.declared.reader.Reader.{Reader}
 use Rattle.loader.proofs.load as lib-load

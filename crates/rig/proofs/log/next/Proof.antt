@@ -7,10 +7,10 @@ use Rattle.rig.proofs.log.next.Statement.{statement}
 use Rattle.rig.proofs.log.next.Tie as tie
 
 returns : tie.Need-returns
-returns c = next-end _ _ _ (c .before .if1 .taken) (c .if2 .taken)
+returns c = search next-end
 
 returns-2 : tie.Need-returns-2
-returns-2 c = next-more _ _ _ (c .before .if1 .taken) (c .if2 .left)
+returns-2 c = search next-more
 
 read-requires : tie.Need-read-requires
 read-requires c κs = search needs
@@ -33,12 +33,4 @@ returns-5 c = next-stamped _ _ _ (c .before .before .before .before .before .bef
 pub next-spec : {M : Type 1} → statement M
 next-spec =
     tie.close
-    (tie.spec
-    returns
-    returns-2
-    read-requires
-    returns-3
-    unsettled-requires
-    returns-4
-    record-at-requires
-    returns-5)
+    (tie.spec returns returns-2 read-requires returns-3 unsettled-requires returns-4 record-at-requires returns-5)

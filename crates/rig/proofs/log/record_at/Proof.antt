@@ -16,13 +16,13 @@ cast-length : tie.Need-cast-length
 cast-length c = search needs
 
 returns : tie.Need-returns
-returns c = field-short _ _ _ _ (c .before .before .before .pre) (c .if1 .taken)
+returns c = search field-short
 
 unsettled-requires : tie.Need-unsettled-requires
 unsettled-requires c κs = search needs
 
 returns-2 : tie.Need-returns-2
-returns-2 c = field-open _ _ _ _ (c .before .before .before .before .before .before .pre) (c .before .before .before .if1 .left) _ (c .before .if2 .taken) (c .unsettled .ensures)
+returns-2 c = search field-open
 
 add-u64-at : tie.Need-add-u64-at
 add-u64-at c = omega (arith, inside c)
@@ -46,21 +46,10 @@ add-t14 : tie.Need-add-t14
 add-t14 c = omega (arith, inside (c .before .before))
 
 returns-3 : tie.Need-returns-3
-returns-3 c = field-frame _ _ _ _ (c .before .before .before .before .before .before .before .pre) (c .before .before .before .before .if1 .left) _ _ (c .before .before .if2 .left) (c .before .u64-at .ensures) (c .octet-at .ensures)
+returns-3 c = search field-frame
 
 pub record-at-spec : {M : Type 1} → statement M
 record-at-spec =
     tie.close
-    (tie.spec
-    cast-length
-    returns
-    unsettled-requires
-    returns-2
-    add-u64-at
-    u64-at-requires
-    add-octet-at
-    octet-at-requires
-    add-t11
-    add-t13
-    add-t14
-    returns-3)
+    (tie.spec cast-length returns unsettled-requires returns-2 add-u64-at u64-at-requires add-octet-at octet-at-requires add-t11
+    add-t13 add-t14 returns-3)

@@ -56,22 +56,10 @@ same-length : tie.Need-same-length Inv-loop μ-loop
 same-length c = c .before .loop .inv .long
 
 returns-2 : tie.Need-returns-2 Inv-loop μ-loop
-returns-2 c = fill-end (c .before .loop .inv) (c .loop-test .left) (part-ones _ _ _)
+returns-2 c = search (fill-end, part-ones)
 
 pub to-front-spec : {M : Type 1} → statement M
 to-front-spec =
     tie.close
-    (tie.spec
-    Inv-loop
-    μ-loop
-    returns
-    least-requires
-    loop-holds
-    add-octet-at
-    octet-at-requires
-    slice-write-log
-    add-i
-    loop-less
-    loop-again
-    same-length
-    returns-2)
+    (tie.spec Inv-loop μ-loop returns least-requires loop-holds add-octet-at octet-at-requires slice-write-log add-i loop-less
+    loop-again same-length returns-2)

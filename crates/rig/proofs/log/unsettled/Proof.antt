@@ -4,7 +4,7 @@ use Rattle.rig.proofs.log.unsettled.Statement.{statement}
 use Rattle.rig.proofs.log.unsettled.Tie as tie
 
 returns : tie.Need-returns
-returns c = open-cut _ (c .if1 .taken)
+returns c = search open-cut
 
 returns-2 : tie.Need-returns-2
 returns-2 c = open-more _ (c .if1 .left)

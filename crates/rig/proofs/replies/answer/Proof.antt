@@ -11,7 +11,7 @@ length-code-requires : tie.Need-length-code-requires
 length-code-requires c κs = search needs
 
 returns : tie.Need-returns
-returns c = answer-skipped _ _ _ _ (c .before .before .before .before .before .before .before .before .before .before .args .stamp) _ _ (c .before .before .before .copy .ensures) (c .length-code .ensures) (c .before .if1 .taken)
+returns c = search answer-skipped
 
 judge-requires : tie.Need-judge-requires
 judge-requires c κs = search needs
@@ -28,11 +28,4 @@ returns-2 c = answer-copied _ _ _ _ (c .before .before .before .before .before .
 pub answer-spec : {M : Type 1} → statement M
 answer-spec =
     tie.close
-    (tie.spec
-    copy-requires
-    length-code-requires
-    returns
-    judge-requires
-    same-length
-    same-length-2
-    returns-2)
+    (tie.spec copy-requires length-code-requires returns judge-requires same-length same-length-2 returns-2)

@@ -26,19 +26,10 @@ same-length-2 : tie.Need-same-length-2
 same-length-2 c = search needs
 
 returns : tie.Need-returns
-returns c =
-    let a = c .before .before .before .before .before .before .before .before .before .before .before .before .before .before .args in
-    called-same _ _ _ _ (a .stamp .port) (a .stamp .time) _ (part-first (a .stamp .size) (a .buffer .now)) (c .before .before .before .before .frame-call .ensures)
+returns c = search (called-same, part-first)
 
 pub judge-spec : {M : Type 1} → statement M
 judge-spec =
     tie.close
-    (tie.spec
-    cast-t10
-    sub-frame-call
-    part-frame-call-start
-    part-frame-call-end
-    frame-call-requires
-    same-length
-    same-length-2
+    (tie.spec cast-t10 sub-frame-call part-frame-call-start part-frame-call-end frame-call-requires same-length same-length-2
     returns)

@@ -8,19 +8,19 @@ cast-if1 : tie.Need-cast-if1
 cast-if1 c = search needs
 
 returns : tie.Need-returns
-returns c = account-past _ _ _ (c .if1 .taken)
+returns c = search account-past
 
 ports-sound-requires : tie.Need-ports-sound-requires
 ports-sound-requires c κs = search needs
 
 returns-2 : tie.Need-returns-2
-returns-2 c = ports-bad _ _ _ (c .before .before .if1 .left) _ (c .before .ports-sound .ensures) (c .if2 .taken)
+returns-2 c = search ports-bad
 
 sizes-sound-requires : tie.Need-sizes-sound-requires
 sizes-sound-requires c κs = search needs
 
 returns-3 : tie.Need-returns-3
-returns-3 c = sizes-left _ _ _ (c .before .before .before .if1 .left) _ (c .before .before .ports-sound .ensures) (c .before .if2 .left) _ (c .sizes-sound .ensures)
+returns-3 c = search sizes-left
 
 pub sound-spec : {M : Type 1} → statement M
 sound-spec =
