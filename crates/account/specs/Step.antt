@@ -42,7 +42,8 @@ judged a c x t =
     then stepped (Forwarded (c - x)) (holding a (c - x) t)
     else stepped (Short c) (holding a c t)
 
--- a frame that costs x at time t, for an account that holds at most `full`: late before the last time, else by the credit topped up to t
+-- a frame that costs x at time t, for an account that holds at most `full`: late before the last time, else judged by the credit
+-- topped up to t
 unfoldable pub judgedAt : Account → ℕ → ℕ → ℕ → Stepped
 judgedAt a full x t = if ltb t (a .last) then stepped (Late (a .credit)) a else judged a (creditUpTo a full t) x t
 

@@ -2,7 +2,7 @@
 use Rattle.lists.proofs.Claims.{picked-answers}
 use Rattle.octets.proofs.Claims.{reads-back, writes-back}
 use Rattle.rows.proofs.Claims.{rows-in-use}
-use Rattle.fields.proofs.Claims.{field-reads-back, field-is-spelled}
+use Rattle.fields.proofs.Claims.{field-reads-back, field-is-spelled, field-figures}
 use Rattle.frame.proofs.Claims.{length-limits, payload-length, reading-answers, reading-refused}
 use Rattle.terms.proofs.Claims.{capacity-largest, cost-largest, formulas-by-mode, terms-limits, checked-methods}
 use Rattle.account.proofs.Claims.{forwarded-step-takes-cost, refused-methods-rest, refused-step-keeps, refused-step-tells, short-step-tops-up, step-answers, step-is-top-up-and-debit, told-apart, valid-within}
@@ -142,6 +142,7 @@ demand-2 =
       octets-written = writes-back;
       fields-read = field-reads-back;
       fields-spelled = field-is-spelled;
+      fields-figures = field-figures;
     }
 
 pub demand-3 : Demand3

@@ -3,7 +3,7 @@
 -- the round trips. Proved in proofs/Demands.antt.
 use Rattle.octets.specs.Claims.{ReadsBack, WritesBack}
 use Rattle.rows.specs.Claims.{RowsInUse}
-use Rattle.fields.specs.Claims.{FieldReadsBack, FieldSpelled}
+use Rattle.fields.specs.Claims.{FieldReadsBack, FieldSpelled, FieldFigures}
 use Rattle.frame.specs.Claims.{LengthLimits, PayloadLength}
 use Rattle.terms.specs.Claims.{FormulasByMode, CapacityLargest, CostLargest, TermsLimits, CheckedMethods}
 use Rattle.account.specs.Claims.{ValidLimits, ForwardedStepTakesCost, StepIsTopUpAndDebit, RefusedMethodsRest}
@@ -92,3 +92,4 @@ pub record Demand2 : Type 0 where
   -- tagged fields ("The configuration image"; "The replay program")
   pub fields-read : FieldReadsBack
   pub fields-spelled : FieldSpelled
+  pub fields-figures : FieldFigures

@@ -7,10 +7,11 @@ use native.Mathlib.Nat.{add-zero}
 use native.Mathlib.Omega.{arith}
 use lib.ListN.{length, length-append}
 use borrow.Author.Tests.{le-leb}
+use Rattle.octets.specs.Numbers.{numberAt}
 use Rattle.octets.specs.Runs.{octetsAt}
 use Rattle.octets.proofs.Parts.{part-front, part-behind, part-whole}
-use Rattle.fields.specs.Fields.{fieldOf, tagAndLength, lengthAt, fieldAt}
-use Rattle.fields.specs.Claims.{FieldReadsBack, FieldSpelled}
+use Rattle.fields.specs.Fields.{fieldOf, tagAndLength, lengthAt, fieldAt, standsAt}
+use Rattle.fields.specs.Claims.{FieldReadsBack, FieldSpelled, FieldFigures}
 use Rattle.fields.proofs.Fields.{length-field, field-is, tag-read, length-read, data-read, field-spelled, stands-tag, stands-length}
 
 -- a field found again between other octets
@@ -52,3 +53,7 @@ field-reads-back before after bytes tag h =
 pub field-is-spelled : FieldSpelled
 field-is-spelled s at tag size o e =
     field-spelled s at size tag o (stands-tag s at tag size e) (stands-length s at tag size e)
+
+pub field-figures : FieldFigures
+unfolding numberAt standsAt
+field-figures = (refl, refl, refl, refl)

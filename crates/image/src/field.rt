@@ -4,7 +4,8 @@ ghost use Prim.Native.Nat.{_≤_, _<_};
 ghost use Rattle.layout.specs.Layout.{accountTag, linkTag, maxAccounts, maxLinks};
 ghost use Rattle.tables.specs.Rows.{accountIn, linkIn};
 ghost use Rattle.tables.specs.Rules.{numberRises};
-ghost use Rattle.image.specs.Read.{accountFields, linkFields, fieldCode, headGood, headCode, inOrder, dataOctets, isFull, valuesGood, nextCode, goodField};
+ghost use Rattle.image.specs.Read.{accountFields, linkFields};
+ghost use Rattle.image.specs.Read.{fieldCode, headGood, headCode, inOrder, dataOctets, isFull, valuesGood, nextCode, goodField};
 use fields::Field;
 use layout::codes;
 

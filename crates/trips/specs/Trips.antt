@@ -16,7 +16,10 @@ use Rattle.image_writer.specs.Writing.{countsGood, valueAnswer, writtenOf, writ
 
 -- the tables that accepted octets name
 abbrev pub tablesIn : List ℕ → Config
-tablesIn s = configFor (readImage s .settings) (accountRows s (readImage s .settings .accounts)) (linkRows s (readImage s .settings .accounts) (readImage s .settings .links))
+tablesIn s =
+    configFor (readImage s .settings)
+    (accountRows s (readImage s .settings .accounts))
+    (linkRows s (readImage s .settings .accounts) (readImage s .settings .links))
 
 -- good tables are those with neither a bad count nor a bad value
 abbrev pub AcceptedIsImage : Type 0
