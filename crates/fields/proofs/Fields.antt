@@ -21,7 +21,7 @@ use Rattle.fields.specs.declared.Field.{Field}
 module _ (s : List ℕ) (at : ℕ) where
   pub field-past : length s ≤ at → record { headed = false; tag = 0; size = 0; whole = false } ≡ fieldAt s at
   field-past h =
-      let n : lengthAt s at ≡ 0 = number-past 2 s (at + 1) (omega arith) in
+      let n : lengthAt s at ≡ 0 = number-past 2 s _ (omega arith) in
       rw (n, List·getD-eq-default s 0 h, lt-leb (at + tagAndLength) (length s) (omega arith))
 
   pub field-is : (h w : Bool) (t n : ℕ) → h ≡ leb (at + tagAndLength) (length s) → t ≡ getD s at 0 → n ≡ lengthAt s at
