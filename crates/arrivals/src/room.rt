@@ -33,8 +33,8 @@ pub(crate) fn empty() -> Room {
 fn put_row(room: Room, n: Line) -> Room {
     let mut rows = room.rows;
     let at = n.e as usize % 3 * receive::ROW_OCTETS;
-    laying::put_u16(&mut rows, at, (n.f % 65536) as u16);
-    laying::put_u32(&mut rows, at + 2, (n.g % 0x0001_0000_0000) as u32);
+    octets_write::put_u16(&mut rows, at, (n.f % 65536) as u16);
+    octets_write::put_u32(&mut rows, at + 2, (n.g % 0x0001_0000_0000) as u32);
     let mut next = room;
     next.rows = rows;
     next

@@ -20,8 +20,8 @@ fn narrow(x: u64) -> u32 {
 // The octets of a frame, all those behind its link number 0.
 fn frame(constant: u32, link: u16) -> [u8; 1519] {
     let mut octets = [0u8; 1519];
-    laying::put_u32(&mut octets, 0, constant);
-    laying::put_u16(&mut octets, 4, link);
+    octets_write::put_u32(&mut octets, 0, constant);
+    octets_write::put_u16(&mut octets, 4, link);
     octets
 }
 

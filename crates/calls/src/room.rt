@@ -38,8 +38,8 @@ fn put_account(room: Room, n: Line) -> Room {
     let mut rows = room.accounts;
     let at = n.c as usize % 4 * 6;
     let rest = n.e % 256 * 0x0100_0000 + n.f % 65536 * 256 + n.g % 256;
-    laying::put_u16(&mut rows, at, (n.d % 65536) as u16);
-    laying::put_u32(&mut rows, at + 2, rest as u32);
+    octets_write::put_u16(&mut rows, at, (n.d % 65536) as u16);
+    octets_write::put_u32(&mut rows, at + 2, rest as u32);
     let mut next = room;
     next.accounts = rows;
     next
@@ -62,8 +62,8 @@ fn link_tail(n: Line) -> u64 {
 fn put_link(room: Room, n: Line) -> Room {
     let mut rows = room.links;
     let at = n.a as usize % 6 * 13;
-    laying::put_u64(&mut rows, at, link_head(n));
-    laying::put_u64(&mut rows, at + 5, link_tail(n));
+    octets_write::put_u64(&mut rows, at, link_head(n));
+    octets_write::put_u64(&mut rows, at + 5, link_tail(n));
     let mut next = room;
     next.links = rows;
     next

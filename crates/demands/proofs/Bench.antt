@@ -13,20 +13,20 @@ use Rattle.frame.specs.Frame.{lengthCode}
 use Rattle.terms.specs.Terms.{byteMode, frameMode, inLimits, bag, added, charge, rate, capacity, byOctets, charged, cost}
 use Rattle.account.specs.Account.{valid, creditUpTo}
 use Rattle.account.specs.Step.{judged, judgedAt, policed}
-use Rattle.rule.specs.Bench.{Case, termsP, byteCases, frameCases}
+use Rattle.account_rule.specs.Bench.{Case, termsP, byteCases, frameCases}
 use Rattle.lists.specs.Leading.{leading}
 use Rattle.rows.specs.Rows.{foundIn}
 use Rattle.tables.specs.Rows.{Config, termsAt, linkAt, accountIn, configFor}
 use Rattle.tables.specs.Rules.{portsSound, sizesSound, linkSound, accountGood, numberRises, linkGood}
-use Rattle.layout.specs.Layout.{fieldPlace, constantGood}
-use Rattle.image.specs.Read.{accountFields, fieldCode, headGood, headCode, inOrder, dataOctets, isFull, valuesGood, nextCode, goodField, accountCount, linkCount, readEnd, readImage}
-use Rattle.loader.specs.Loading.{Runs, runsOf, accountRows, linkRows, capacities, longEnough, loading}
-use Rattle.loader.specs.Fresh.{Begins, Fresh}
-use Rattle.image.specs.Bench.{accountP, linkP, imageP, answerP}
-use Rattle.image.specs.declared.Loaded.{Loaded}
-use Rattle.loader.proofs.Fresh.{load-accepts, fresh-holds, fresh-sound}
-use Rattle.image.proofs.Bench.{image-p-reads}
-use Rattle.trips.specs.Trips.{loadedTables}
+use Rattle.image_layout.specs.Layout.{fieldPlace, constantGood}
+use Rattle.image_read.specs.Read.{accountFields, fieldCode, headGood, headCode, inOrder, dataOctets, isFull, valuesGood, nextCode, goodField, accountCount, linkCount, readEnd, readImage}
+use Rattle.image_load.specs.Loading.{Runs, runsOf, accountRows, linkRows, capacities, longEnough, loading}
+use Rattle.image_load.specs.Fresh.{Begins, Fresh}
+use Rattle.image_read.specs.Bench.{accountP, linkP, imageP, answerP}
+use Rattle.image_read.specs.declared.Loaded.{Loaded}
+use Rattle.image_load.proofs.Fresh.{load-accepts, fresh-holds, fresh-sound}
+use Rattle.image_read.proofs.Bench.{image-p-reads}
+use Rattle.image_round_trip.specs.Trips.{loadedTables}
 use Rattle.filter.specs.Filter.{frameCode, portCode, routed}
 use Rattle.switch.specs.Call.{State, stateOf, inUse, accountHeld, decided, called}
 use Rattle.demands.specs.History.{answers, final, configIn, stateIn}

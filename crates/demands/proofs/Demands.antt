@@ -6,19 +6,19 @@ use Rattle.fields.proofs.Claims.{field-reads-back, field-is-spelled, field-figu
 use Rattle.frame.proofs.Claims.{length-limits, payload-length, reading-answers, reading-refused}
 use Rattle.terms.proofs.Claims.{capacity-largest, cost-largest, formulas-by-mode, terms-limits, checked-methods}
 use Rattle.account.proofs.Claims.{forwarded-step-takes-cost, refused-methods-rest, refused-step-keeps, refused-step-tells, short-step-tops-up, step-answers, step-is-top-up-and-debit, told-apart, valid-within}
-use Rattle.rule.proofs.Bench.{bench-table}
-use Rattle.rule.proofs.Bucket.{rule-read}
-use Rattle.rule.proofs.Rule.{allowance-by-mode, rule-of-steps, steps-in-words}
+use Rattle.account_rule.proofs.Bench.{bench-table}
+use Rattle.account_rule.proofs.Bucket.{rule-read}
+use Rattle.account_rule.proofs.Rule.{allowance-by-mode, rule-of-steps, steps-in-words}
 use Rattle.tables.proofs.Claims.{finds-first, finds-none, link-accepted, link-refused, sizes-within-smax}
-use Rattle.layout.proofs.Claims.{constant-limits, image-figures}
-use Rattle.image.proofs.Bench.{image-p-reads}
-use Rattle.image.proofs.Claims.{accepted-ends, read-codes, read-field-by-field}
-use Rattle.image.proofs.Prefix.{prefix-read}
-use Rattle.loader.proofs.Claims.{load-codes, load-refuses, offsets-inside, refused-load-keeps, rows-beyond-kept}
-use Rattle.loader.proofs.Fresh.{fresh-holds, fresh-sound, load-accepts, load-fresh}
-use Rattle.loader.proofs.Prefix.{prefix-load}
-use Rattle.image_writer.proofs.Claims.{first-bad-account, first-bad-constant, first-bad-link, image-length, refused-write-keeps, write-accepts, write-codes, write-offsets, write-refuses, writes-image}
-use Rattle.trips.proofs.Trips.{accepted-is-image, image-is-accepted, read-write, write-read}
+use Rattle.image_layout.proofs.Claims.{constant-limits, image-figures}
+use Rattle.image_read.proofs.Bench.{image-p-reads}
+use Rattle.image_read.proofs.Claims.{accepted-ends, read-codes, read-field-by-field}
+use Rattle.image_read.proofs.Prefix.{prefix-read}
+use Rattle.image_load.proofs.Claims.{load-codes, load-refuses, offsets-inside, refused-load-keeps, rows-beyond-kept}
+use Rattle.image_load.proofs.Fresh.{fresh-holds, fresh-sound, load-accepts, load-fresh}
+use Rattle.image_load.proofs.Prefix.{prefix-load}
+use Rattle.image_write.proofs.Claims.{first-bad-account, first-bad-constant, first-bad-link, image-length, refused-write-keeps, write-accepts, write-codes, write-offsets, write-refuses, writes-image}
+use Rattle.image_round_trip.proofs.Trips.{accepted-is-image, image-is-accepted, read-write, write-read}
 use Rattle.switch.proofs.Claims.{call-answers, call-effects, codes-in-order, length-alone, ports-beyond, refused-call-keeps, rows-beyond-unread, verdicts-apart}
 use Rattle.demands.proofs.Bench.{call-bench-table, meant-limits}
 use Rattle.demands.proofs.Isolation.{isolation, isolation-of-fresh-tables}

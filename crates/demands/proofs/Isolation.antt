@@ -12,13 +12,13 @@ use Rattle.lists.proofs.History.{SimulatesPicked, alike}
 use Rattle.lists.proofs.Tests.{both}
 use Rattle.account.specs.Step.{policed}
 use Rattle.account.specs.declared.Account.{Account}
-use Rattle.rule.proofs.Rule.{state}
+use Rattle.account_rule.proofs.Rule.{state}
 use Rattle.tables.specs.Rows.{Config}
 use Rattle.rows.specs.declared.Found.{Found}
 use Rattle.rows.specs.declared.Found.the-variants.{At, Nowhere}
-use Rattle.image.specs.Read.{readImage}
-use Rattle.loader.specs.Loading.{Runs, loading}
-use Rattle.loader.specs.Fresh.{Fresh}
+use Rattle.image_read.specs.Read.{readImage}
+use Rattle.image_load.specs.Loading.{Runs, loading}
+use Rattle.image_load.specs.Fresh.{Fresh}
 use Rattle.switch.specs.Verdict.{Told, told, withMask}
 use Rattle.switch.specs.declared.Verdict.the-variants.{Refused}
 use Rattle.switch.specs.Call.{State, Call, accountHeld}

@@ -19,19 +19,19 @@ use Rattle.frame.specs.Frame.{lengthCode}
 use Rattle.terms.specs.declared.Terms.{Terms}
 use Rattle.account.specs.Account.{accountOf, valid}
 use Rattle.account.specs.Step.{policed}
-use Rattle.rule.specs.Bucket.{Reached}
-use Rattle.rule.specs.Rule.{ruleArrived, ruleStep}
+use Rattle.account_rule.specs.Bucket.{Reached}
+use Rattle.account_rule.specs.Rule.{ruleArrived, ruleStep}
 use Rattle.account.specs.declared.Account.{Account}
-use Rattle.rule.proofs.Rule.{Sound, state, Agree, step-arrived, state-valid, arrival, state-loaded}
+use Rattle.account_rule.proofs.Rule.{Sound, state, Agree, step-arrived, state-valid, arrival, state-loaded}
 use Rattle.account.proofs.Step.{policed-keeps}
 use Rattle.tables.specs.Rows.{Config}
 use Rattle.rows.specs.declared.Found.{Found}
 use Rattle.rows.specs.declared.Found.the-variants.{At, Nowhere}
 use Rattle.tables.specs.declared.Link.{Link}
 use Rattle.tables.proofs.Rules.{sound-account}
-use Rattle.image.specs.Read.{readImage}
-use Rattle.loader.specs.Loading.{Runs}
-use Rattle.loader.specs.Fresh.{Fresh}
+use Rattle.image_read.specs.Read.{readImage}
+use Rattle.image_load.specs.Loading.{Runs}
+use Rattle.image_load.specs.Fresh.{Fresh}
 use Rattle.filter.specs.Filter.{portCode}
 use Rattle.switch.specs.Verdict.{Told, told, withMask}
 use Rattle.switch.specs.Call.{State, stateOf, Call, After, accountsInUse, inUse, accountHeld, Decided, kept, decided, stored, refusedWith, onLink, called}

@@ -10,10 +10,10 @@ use Rattle.account.specs.Account.{accountOf, loaded}
 use Rattle.tables.specs.Rows.{Config, accountOctets, linkOctets, accountTable, linkTable, accountIn, linkIn}
 use Rattle.tables.specs.Rules.{linkSound, accountGood}
 use Rattle.tables.proofs.Rules.{sound-account}
-use Rattle.image.specs.Read.{readImage}
-use Rattle.loader.specs.Loading.{Runs}
-use Rattle.loader.specs.Fresh.{Fresh, HoldsImage, SoundTables}
-use Rattle.loader.proofs.Fresh.{Long, held-long, fresh-holds, fresh-sound}
+use Rattle.image_read.specs.Read.{readImage}
+use Rattle.image_load.specs.Loading.{Runs}
+use Rattle.image_load.specs.Fresh.{Fresh, HoldsImage, SoundTables}
+use Rattle.image_load.proofs.Fresh.{Long, held-long, fresh-holds, fresh-sound}
 use Rattle.switch.specs.Call.{accountHeld}
 use Rattle.demands.specs.History.{configIn, stateIn}
 use Rattle.demands.specs.Rule.{imageTerms, imageLink}

@@ -10,16 +10,16 @@ use Rattle.lists.proofs.History.{answers-each}
 use Rattle.lists.proofs.Tests.{split}
 use Rattle.terms.specs.Terms.{cost}
 use Rattle.terms.specs.declared.Terms.{Terms}
-use Rattle.rule.specs.Bucket.{Reached, lastTime, ruleHolds}
-use Rattle.rule.specs.Rule.{allowance, ruleArrived}
-use Rattle.rule.proofs.Rule.{in-words}
+use Rattle.account_rule.specs.Bucket.{Reached, lastTime, ruleHolds}
+use Rattle.account_rule.specs.Rule.{allowance, ruleArrived}
+use Rattle.account_rule.proofs.Rule.{in-words}
 use Rattle.tables.specs.Rows.{Config, configFor}
-use Rattle.image.specs.Read.{readImage}
-use Rattle.loader.specs.Loading.{Runs, loading}
-use Rattle.loader.specs.Fresh.{Fresh}
-use Rattle.image.specs.declared.Loaded.{Loaded}
-use Rattle.loader.proofs.Fresh.{load-fresh}
-use Rattle.trips.specs.Trips.{loadedTables}
+use Rattle.image_read.specs.Read.{readImage}
+use Rattle.image_load.specs.Loading.{Runs, loading}
+use Rattle.image_load.specs.Fresh.{Fresh}
+use Rattle.image_read.specs.declared.Loaded.{Loaded}
+use Rattle.image_load.proofs.Fresh.{load-fresh}
+use Rattle.image_round_trip.specs.Trips.{loadedTables}
 use Rattle.switch.specs.Call.{Call, called}
 use Rattle.filter.proofs.Filter.{frame-code-high, port-code-high}
 use Rattle.demands.specs.History.{answers, final, codes, configIn, stateIn}

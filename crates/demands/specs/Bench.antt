@@ -7,10 +7,10 @@ use mathlib.Core.List.{List, [], _∷_, map}
 use mathlib.Core.Path.{_≡_}
 use lib.ListN.{getD, set, replicate}
 use Rattle.terms.specs.Terms.{byteMode, frameMode}
-use Rattle.rule.specs.Bench.{Case, termsP, byteCases, frameCases}
-use Rattle.image.specs.Bench.{imageP, answerP}
-use Rattle.loader.specs.Loading.{Runs, longEnough, loading}
-use Rattle.trips.specs.Trips.{loadedTables}
+use Rattle.account_rule.specs.Bench.{Case, termsP, byteCases, frameCases}
+use Rattle.image_read.specs.Bench.{imageP, answerP}
+use Rattle.image_load.specs.Loading.{Runs, longEnough, loading}
+use Rattle.image_round_trip.specs.Trips.{loadedTables}
 use Rattle.switch.specs.Verdict.{Told, withMask}
 use Rattle.switch.specs.Call.{State, Call, callOf}
 use Rattle.demands.specs.History.{answers, final, stateIn}

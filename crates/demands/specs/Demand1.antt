@@ -3,9 +3,9 @@
 -- in receptions.
 use Rattle.frame.specs.Claims.{ReadingAnswers, ReadingRefused}
 use Rattle.account.specs.Claims.{StepAnswers, RefusedStepKeeps, RefusedStepTells, ToldApart, ShortStepTopsUp}
-use Rattle.image.specs.Claims.{ReadCodes}
-use Rattle.loader.specs.Claims.{LoadCodes, RefusedLoadKeeps, OffsetsInside}
-use Rattle.image_writer.specs.Claims.{WriteCodes, RefusedWriteKeeps}
+use Rattle.image_read.specs.Claims.{ReadCodes}
+use Rattle.image_load.specs.Claims.{LoadCodes, RefusedLoadKeeps, OffsetsInside}
+use Rattle.image_write.specs.Claims.{WriteCodes, RefusedWriteKeeps}
 use Rattle.switch.specs.Claims.{CallAnswers, RefusedCallKeeps, CallEffects, VerdictsApart}
 
 -- the codes that each call can answer ("Codes, in order of checking"; "The configuration image"; "The frame")

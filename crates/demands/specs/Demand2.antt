@@ -7,15 +7,15 @@ use Rattle.fields.specs.Claims.{FieldReadsBack, FieldSpelled, FieldFigures}
 use Rattle.frame.specs.Claims.{LengthLimits, PayloadLength}
 use Rattle.terms.specs.Claims.{FormulasByMode, CapacityLargest, CostLargest, TermsLimits, CheckedMethods}
 use Rattle.account.specs.Claims.{ValidLimits, ForwardedStepTakesCost, StepIsTopUpAndDebit, RefusedMethodsRest}
-use Rattle.rule.specs.Bench.{BenchTable}
+use Rattle.account_rule.specs.Bench.{BenchTable}
 use Rattle.tables.specs.Claims.{FindsFirst, FindsNone, SizesWithinSmax, LinkRefused, LinkAccepted}
-use Rattle.layout.specs.Claims.{ImageFigures, ConstantLimits}
-use Rattle.image.specs.Bench.{ImagePReads}
-use Rattle.image.specs.Claims.{AcceptedEnds, ReadFieldByField, PrefixRead}
-use Rattle.loader.specs.Claims.{LoadRefuses, RowsBeyondKept, PrefixLoad}
-use Rattle.loader.specs.Fresh.{LoadAccepts, LoadFresh, FreshHolds, FreshSound}
-use Rattle.image_writer.specs.Claims.{WriteRefuses, WriteAccepts, WriteOffsets, WritesImage, ImageLength, FirstBadConstant, FirstBadAccount, FirstBadLink}
-use Rattle.trips.specs.Trips.{AcceptedIsImage, ImageIsAccepted, WriteRead, ReadWrite}
+use Rattle.image_layout.specs.Claims.{ImageFigures, ConstantLimits}
+use Rattle.image_read.specs.Bench.{ImagePReads}
+use Rattle.image_read.specs.Claims.{AcceptedEnds, ReadFieldByField, PrefixRead}
+use Rattle.image_load.specs.Claims.{LoadRefuses, RowsBeyondKept, PrefixLoad}
+use Rattle.image_load.specs.Fresh.{LoadAccepts, LoadFresh, FreshHolds, FreshSound}
+use Rattle.image_write.specs.Claims.{WriteRefuses, WriteAccepts, WriteOffsets, WritesImage, ImageLength, FirstBadConstant, FirstBadAccount, FirstBadLink}
+use Rattle.image_round_trip.specs.Trips.{AcceptedIsImage, ImageIsAccepted, WriteRead, ReadWrite}
 use Rattle.switch.specs.Claims.{CodesInOrder, CallEffects, LengthAlone, PortsBeyond, RowsBeyondUnread}
 use Rattle.demands.specs.Bench.{CallBenchTable}
 

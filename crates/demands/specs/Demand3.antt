@@ -9,14 +9,14 @@ use lib.ListN.{length, getD, set, take, replicate}
 use Rattle.lists.specs.Claims.{PickedAnswers}
 use Rattle.lists.specs.Lists.{only, answersTo}
 use Rattle.terms.specs.Terms.{cost}
-use Rattle.rule.specs.Bucket.{lastTime, FromEach, RuleRead}
-use Rattle.rule.specs.Rule.{allowance, AllowanceByMode, RuleOfSteps, StepsInWords}
+use Rattle.account_rule.specs.Bucket.{lastTime, FromEach, RuleRead}
+use Rattle.account_rule.specs.Rule.{allowance, AllowanceByMode, RuleOfSteps, StepsInWords}
 use Rattle.tables.specs.Rows.{Config}
-use Rattle.image.specs.Read.{readImage}
-use Rattle.image.specs.Bench.{imageP, answerP}
-use Rattle.loader.specs.Loading.{Runs, loading}
-use Rattle.loader.specs.Fresh.{Fresh}
-use Rattle.trips.specs.Trips.{loadedTables}
+use Rattle.image_read.specs.Read.{readImage}
+use Rattle.image_read.specs.Bench.{imageP, answerP}
+use Rattle.image_load.specs.Loading.{Runs, loading}
+use Rattle.image_load.specs.Fresh.{Fresh}
+use Rattle.image_round_trip.specs.Trips.{loadedTables}
 use Rattle.switch.specs.Call.{State, Call, callOf, called}
 use Rattle.demands.specs.History.{answers, final, codes, configIn, stateIn}
 use Rattle.demands.specs.Rule.{imageTerms, linkRow, accountNamed, filterCode, meant, reachedIn, ruleCodes}

@@ -4,8 +4,8 @@ use mathlib.Core.List.{List, map}
 use Rattle.lists.specs.History
 use Rattle.lists.specs.History.{Machine}
 use Rattle.tables.specs.Rows.{Config, configFor}
-use Rattle.image.specs.Read.{readImage}
-use Rattle.loader.specs.Loading.{Runs}
+use Rattle.image_read.specs.Read.{readImage}
+use Rattle.image_load.specs.Loading.{Runs}
 use Rattle.switch.specs.Verdict.{Told}
 use Rattle.switch.specs.Call.{State, stateOf, Call, called}
 

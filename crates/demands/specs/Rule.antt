@@ -10,14 +10,14 @@ use Rattle.lists.specs.History.{Machine, answers, leftBy, byCalls}
 use Rattle.lists.specs.Lists.{only}
 use Rattle.frame.specs.Frame.{linkNumber}
 use Rattle.terms.specs.declared.Terms.{Terms}
-use Rattle.rule.specs.Bucket.{Reached}
-use Rattle.rule.specs.Rule.{Arrival, ruleArrived, ruleOfAccount}
+use Rattle.account_rule.specs.Bucket.{Reached}
+use Rattle.account_rule.specs.Rule.{Arrival, ruleArrived, ruleOfAccount}
 use Rattle.rows.specs.Rows.{foundIn}
 use Rattle.tables.specs.Rows.{accountIn, linkIn}
 use Rattle.rows.specs.declared.Found.{Found}
 use Rattle.rows.specs.declared.Found.the-variants.{At, Nowhere}
 use Rattle.tables.specs.declared.Link.{Link}
-use Rattle.image.specs.Read.{accountFields, linkFields, readImage}
+use Rattle.image_read.specs.Read.{accountFields, linkFields, readImage}
 use Rattle.filter.specs.Filter.{frameCode, portCode}
 use Rattle.switch.specs.Call.{Call}
 

@@ -10,8 +10,8 @@ use Rattle.account.specs.Account.{holding, valid, toppedUp}
 use Rattle.account.specs.Step.{Stepped, policed}
 use Rattle.account.specs.declared.Account.{Account}
 use Rattle.account.proofs.Step.{policed-keeps}
-use Rattle.image.specs.declared.Loaded.{Loaded}
-use Rattle.loader.specs.Loading.{Runs, Loading, loadingOf}
+use Rattle.image_read.specs.declared.Loaded.{Loaded}
+use Rattle.image_load.specs.Loading.{Runs, Loading, loadingOf}
 use Rattle.switch.specs.Verdict.{Told}
 use Rattle.switch.specs.Call.{State, After, afterOf}
 use Rattle.exports.specs.Numbers.{stepSays, stepDone, stepDoneOf, callSays, callDone, callDoneOf, networkOf, receptionDone, receptionDoneOf}

@@ -11,7 +11,7 @@ use Rattle.terms.specs.Terms.{termsWith}
 use Rattle.account.specs.Account.{accountOf}
 use Rattle.account.specs.Step.{Told as StepTold, Stepped}
 use Rattle.account.specs.declared.Account.{Account}
-use Rattle.image.specs.declared.Loaded.{Loaded}
+use Rattle.image_read.specs.declared.Loaded.{Loaded}
 use Rattle.switch.specs.Verdict.{Told}
 use Rattle.switch.specs.Call.{State, After}
 use Rattle.receive.specs.Receive.{told, After as Received}

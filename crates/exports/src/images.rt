@@ -1,11 +1,11 @@
 // Reading, loading and writing a configuration image.
 ghost use mathlib.Core.Path.{_≡_};
 ghost use Rattle.tables.specs.Rows.{configOf};
-ghost use Rattle.image.specs.Read.{readImage};
-ghost use Rattle.loader.specs.Loading.{runsOf, loadingOf, loading};
-ghost use Rattle.image_writer.specs.Writing.{writtenOf, writingOf, writing};
+ghost use Rattle.image_read.specs.Read.{readImage};
+ghost use Rattle.image_load.specs.Loading.{runsOf, loadingOf, loading};
+ghost use Rattle.image_write.specs.Writing.{writtenOf, writingOf, writing};
 ghost use Rattle.exports.specs.Numbers.{loadedWith};
-use image::Loaded;
+use image_read::Loaded;
 
 // An answer told in numbers.
 fn tell(
@@ -36,7 +36,7 @@ pub extern "C" fn ashthulgo_check(
     ensures { λ r. ⌜ loadedWith r (now (offset .exit)) (now (constant .exit)) (now («account_count» .exit)) (now («link_count» .exit))
         ≡ readImage (now (image .entry)) ⌝ }
 {
-    let answer = image::check(image);
+    let answer = image_read::check(image);
     tell(answer, offset, constant, account_count, link_count)
 }
 
@@ -59,7 +59,7 @@ pub extern "C" fn ashthulgo_load(
         ≡ loading (now (image .entry))
         (runsOf (now (accounts .entry)) (now (credits .entry)) (now (lasts .entry)) (now (links .entry))) ⌝ }
 {
-    let answer = loader::load(image, accounts, credits, lasts, links);
+    let answer = image_load::load(image, accounts, credits, lasts, links);
     tell(answer, offset, constant, account_count, link_count)
 }
 
@@ -77,7 +77,7 @@ pub extern "C" fn ashthulgo_write(
     ensures { λ r. ⌜ writingOf (writtenOf r (now (offset .exit))) (now (room .exit))
         ≡ writing (configOf constant (now (accounts .entry)) «account_count» (now (links .entry)) «link_count») (now (room .entry)) ⌝ }
 {
-    let written = image_writer::write(constant, accounts, account_count, links, link_count, room);
+    let written = image_write::write(constant, accounts, account_count, links, link_count, room);
     *offset = written.offset;
     written.code
 }

@@ -16,7 +16,7 @@ use Rattle.rows.specs.Rows.{tableOf, rowOctets}
 use Rattle.tables.specs.Rows.{Config, accountOctets, linkOctets}
 use Rattle.fields.specs.Fields.{fieldOf, tagAndLength}
 use Rattle.fields.proofs.Fields.{length-field}
-use Rattle.layout.specs.Layout.{headTag, accountTag, linkTag, endTag, edition, imageOf, headOctets, headSize, accountSize, linkSize, fieldPlace, imageLength}
+use Rattle.image_layout.specs.Layout.{headTag, accountTag, linkTag, endTag, edition, imageOf, headOctets, headSize, accountSize, linkSize, fieldPlace, imageLength}
 
 -- ---- one field
 pub field-laid : (d e f : List ℕ) (at tag size : ℕ) (bytes : List ℕ) → length bytes ≡ size → at + (tagAndLength + size) ≤ length d

@@ -6,19 +6,19 @@ ghost use Rattle.octets.specs.Runs.{octetsAt, joined, put};
 ghost use Rattle.rows.specs.Rows.{tableOf, rowOctets};
 ghost use Rattle.tables.specs.Rows.{configOf};
 ghost use Rattle.fields.specs.Fields.{fieldOf};
-ghost use Rattle.layout.specs.Layout.{headTag, edition, imageOf};
+ghost use Rattle.image_layout.specs.Layout.{headTag, edition, imageOf};
 
 // The head.
 fn put_head(room: &mut [u8], constant: u32)
     ensures { λ r. ⌜ now (room .exit) ≡ put (now (room .entry)) 0 (fieldOf headTag (edition ∷ octetsOf 4 constant)) ⌝ }
 {
-    if !octets::has_room(room.len(), 0, layout::HEAD_SIZE) {
+    if !octets::has_room(room.len(), 0, image_layout::HEAD_SIZE) {
         return;
     }
-    room[0] = layout::HEAD_TAG;
-    laying::put_u16(room, 1, layout::HEAD_OCTETS as u16);
-    room[layout::EDITION_PLACE] = layout::EDITION;
-    laying::put_u32(room, layout::CONSTANT_PLACE, constant);
+    room[0] = image_layout::HEAD_TAG;
+    octets_write::put_u16(room, 1, image_layout::HEAD_OCTETS as u16);
+    room[image_layout::EDITION_PLACE] = image_layout::EDITION;
+    octets_write::put_u32(room, image_layout::CONSTANT_PLACE, constant);
 }
 
 // One field at a place: its tag, its length, and `size` octets of the rows from `from` on.
@@ -29,8 +29,8 @@ fn put_field(room: &mut [u8], at: usize, tag: u8, rows: &[u8], from: usize, size
         return;
     }
     room[at] = tag;
-    laying::put_u16(room, at + 1, size as u16);
-    laying::copy(rows, from, size as usize, room, at + fields::TAG_AND_LENGTH);
+    octets_write::put_u16(room, at + 1, size as u16);
+    octets_write::copy(rows, from, size as usize, room, at + fields::TAG_AND_LENGTH);
 }
 
 // The fields of the first n rows of `size` octets, from a place on.
@@ -60,30 +60,30 @@ fn put_fields(room: &mut [u8], at: usize, tag: u8, rows: &[u8], size: u8, n: u16
 pub fn put_image(constant: u32, accounts: &[u8], n: u16, links: &[u8], m: u16, room: &mut [u8])
     ensures { λ r. ⌜ now (room .exit) ≡ put (now (room .entry)) 0 (imageOf (configOf constant (now (accounts .entry)) n (now (links .entry)) m)) ⌝ }
 {
-    if !octets::has_room(room.len(), 0, layout::data_place(n, m)) {
+    if !octets::has_room(room.len(), 0, image_layout::data_place(n, m)) {
         return;
     }
     put_head(room, constant);
     put_fields(
         room,
-        layout::field_place(0, 0),
-        layout::ACCOUNT_TAG,
+        image_layout::field_place(0, 0),
+        image_layout::ACCOUNT_TAG,
         accounts,
         tables::ACCOUNT_OCTETS as u8,
         n,
     );
     put_fields(
         room,
-        layout::field_place(n, 0),
-        layout::LINK_TAG,
+        image_layout::field_place(n, 0),
+        image_layout::LINK_TAG,
         links,
         tables::LINK_OCTETS as u8,
         m,
     );
     put_field(
         room,
-        layout::field_place(n, m),
-        layout::END_TAG,
+        image_layout::field_place(n, m),
+        image_layout::END_TAG,
         accounts,
         0,
         0,

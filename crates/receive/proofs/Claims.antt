@@ -16,7 +16,7 @@ use Rattle.octets.specs.Numbers.{numberAt}
 use Rattle.rows.specs.Rows.{tableOf, rowNumber, foundIn}
 use Rattle.rows.specs.declared.Found.the-variants.{At, Nowhere}
 use Rattle.rows.proofs.Finding.{first-found, none-found, found-same}
-use Rattle.sequence.specs.Sequence.{numberCount}
+use Rattle.receive_sequence.specs.Sequence.{numberCount}
 use Rattle.receive.specs.declared.Arrival.{Arrival}
 use Rattle.receive.specs.declared.Reception.{Reception}
 use Rattle.receive.specs.declared.Reception.the-variants.{Delivered, Copy, OutOfSequence, UnknownLink, Late}

@@ -18,7 +18,7 @@ use Rattle.receive.specs.declared.Arrival.{Arrival}
 use Rattle.receive.specs.declared.Network.{Network}
 use Rattle.receive.specs.declared.Reception.{Reception}
 use Rattle.receive.specs.declared.Reception.the-variants.{Delivered, Copy, OutOfSequence, UnknownLink, Late}
-use Rattle.sequence.specs.Sequence.{passes, numberOf}
+use Rattle.receive_sequence.specs.Sequence.{passes, numberOf}
 use Rattle.receive.specs.Lent.{other, skewRowOctets, skewIn, recordWords, rowsInUse, rowFound, numberPlace, waitsPlace, deliveredPlace, stampPlace, word, store, deliveryOf, noted, met, delivered}
 use Rattle.receive.specs.Receive.{taken, inSkew, judged, left, After, afterOf, answerBy, onRecord, onRow, received}
 use Rattle.receive.proofs.Words.{row-in-run, record-in-run}

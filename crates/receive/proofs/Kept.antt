@@ -12,8 +12,8 @@ use Rattle.receive.specs.declared.Reception.the-variants.{Delivered, Cop
 use Rattle.receive.specs.Lent.{index, other, recordWords, stampPlace, numberPlace, waitsPlace, deliveredPlace, word, store, deliveryOf, lastStamp, lastNumber, awaiting, noted, met, delivered}
 use Rattle.receive.specs.Receive.{left}
 use Rattle.receive.specs.Claims.{SameRecord}
-use Rattle.sequence.specs.Sequence.{numberCount, numberOf}
-use Rattle.sequence.proofs.Passing.{number-some}
+use Rattle.receive_sequence.specs.Sequence.{numberCount, numberOf}
+use Rattle.receive_sequence.proofs.Passing.{number-some}
 use Rattle.receive.proofs.Judging.{delivery-none, delivery-some}
 use Rattle.receive.proofs.Words.{index-low, number-inside, waits-inside, delivered-inside, length-store, word-same, word-other, word-beside}
 

@@ -10,7 +10,7 @@ use Rattle.rows.specs.declared.Found.the-variants.{At, Nowhere}
 use Rattle.receive.specs.declared.Arrival.{Arrival}
 use Rattle.receive.specs.declared.Reception.{Reception}
 use Rattle.receive.specs.declared.Reception.the-variants.{UnknownLink, Late}
-use Rattle.sequence.specs.Sequence.{numberCount}
+use Rattle.receive_sequence.specs.Sequence.{numberCount}
 use Rattle.receive.specs.Lent.{skewRowOctets, skewIn, recordWords, rowsInUse, rowFound, word, lastStamp, lastNumber}
 use Rattle.receive.specs.Receive.{told, received}
 

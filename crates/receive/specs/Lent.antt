@@ -7,7 +7,7 @@ use lib.ListN.{length, getD, set}
 use lib.Dec.{eqb}
 use Rattle.lists.specs.Choice.{if_then_else_}
 use Rattle.octets.specs.Numbers.{numberAt}
-use Rattle.sequence.specs.Sequence.{numberOf}
+use Rattle.receive_sequence.specs.Sequence.{numberOf}
 use Rattle.rows.specs.Rows.{tableOf, inUse, foundIn}
 use Rattle.rows.specs.declared.Found.{Found}
 use Rattle.receive.specs.declared.Arrival.{Arrival}

@@ -11,7 +11,7 @@ use Rattle.rows.specs.declared.Found.the-variants.{At, Nowhere}
 use Rattle.receive.specs.declared.Arrival.{Arrival}
 use Rattle.receive.specs.declared.Reception.{Reception}
 use Rattle.receive.specs.declared.Reception.the-variants.{Delivered, Copy, OutOfSequence, UnknownLink, Late}
-use Rattle.sequence.specs.Sequence.{passes}
+use Rattle.receive_sequence.specs.Sequence.{passes}
 use Rattle.receive.specs.Lent.{other, skewIn, rowFound, lastStamp, lastNumber, awaiting, noted, met, delivered}
 
 -- the number of an answer. The papers number only the refusals, 4 and 8; 0 is success as in document 01, 30 and 31 are no code there

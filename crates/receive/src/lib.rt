@@ -3,7 +3,7 @@
 ghost use mathlib.Core.Path.{_≡_};
 ghost use Prim.Native.Nat.{_+_, _*_, _≤_};
 ghost use lib.ListN.{length};
-ghost use Rattle.sequence.specs.Sequence.{numberOf};
+ghost use Rattle.receive_sequence.specs.Sequence.{numberOf};
 ghost use Rattle.receive.specs.Lent.{other, recordWords, deliveryOf};
 ghost use Rattle.receive.specs.Receive.{told, taken, inSkew, judged, answerBy, afterOf, received};
 
@@ -107,7 +107,7 @@ fn judge(
     if stamp < last {
         return Reception::Late;
     }
-    if !sequence::passes(held, number) {
+    if !receive_sequence::passes(held, number) {
         return Reception::OutOfSequence;
     }
     if in_skew(skew, waits, delivered, stamp) {

@@ -2,13 +2,13 @@
 ghost use Prim.Native.Nat.{_≤_};
 ghost use lib.ListN.{length};
 use libc::STDOUT_FILENO;
-use rig::log::Entry;
-use rig::replies::answer;
+use replay_log::log::Entry;
+use replay_log::replies::answer;
 use switch::Verdict;
 use tables::Settings;
 
 // Octets read at once, those of the longest record and more, and characters written at once.
-const READ_OCTETS: usize = 4 * rig::log::LONGEST_RECORD;
+const READ_OCTETS: usize = 4 * replay_log::log::LONGEST_RECORD;
 
 const WRITE_OCTETS: usize = 65536;
 
@@ -30,7 +30,7 @@ fn flush(out: &[u8], place: usize) {
 
 // A place with room for any line; what was laid is written where there is none.
 fn with_room(out: &[u8], place: usize) -> usize {
-    if octets::has_room(out.len(), place, lines::LONGEST_LINE) {
+    if octets::has_room(out.len(), place, replay_text::LONGEST_LINE) {
         return place;
     }
     flush(out, place);
@@ -40,12 +40,12 @@ fn with_room(out: &[u8], place: usize) -> usize {
 // The line of an answer.
 fn say(out: &mut [u8], place: usize, number: u64, verdict: Verdict) -> usize {
     let at = with_room(out, place);
-    lines::put_line(out, at, number, verdict)
+    replay_text::put_line(out, at, number, verdict)
 }
 
 fn say_cut(out: &mut [u8], place: usize) -> usize {
     let at = with_room(out, place);
-    lines::put_cut(out, at)
+    replay_text::put_cut(out, at)
 }
 
 // Behind the last frame at hand: more is to be read, or the replay is over.
@@ -99,7 +99,7 @@ fn answer_hand(
     let mut place = from.place;
     let mut frames = from.frames;
     while frames < u64::MAX {
-        let entry = rig::log::next(log, at, whole);
+        let entry = replay_log::log::next(log, at, whole);
         let Entry::Frame(stamp) = entry else {
             return stop(entry, from.hand, at, place, frames, out);
         };
@@ -126,7 +126,7 @@ fn refill(file: i32, log: &mut [u8], at: usize, hand: usize) -> usize
 {
     let end = octets::least(hand, log.len());
     let rest = end - octets::least(at, end);
-    rig::log::to_front(log, at, rest);
+    replay_log::log::to_front(log, at, rest);
     rest + io::read_full(file, &mut log[rest..])
 }
 
@@ -217,7 +217,7 @@ pub(crate) fn replay(
     let start = Progress {
         hand: 0,
         at: 0,
-        place: lines::put_header(&mut out, 0),
+        place: replay_text::put_header(&mut out, 0),
         frames: 0,
         over: false,
     };

@@ -3,7 +3,7 @@
 // and the counts. Loading has the lengths of the runs too, and what they hold afterwards. A remainder keeps each part
 // within its run; no case needs it.
 use super::say;
-use image::Loaded;
+use image_read::Loaded;
 
 // The head of image P.
 pub(crate) const HEAD: u64 = 0x01_0005_01_0300_0000;
@@ -15,8 +15,8 @@ fn put_fields(room: &mut [u8], at: u16, step: u8, n: u16, x: u64, y: u64) {
     let mut i: u16 = 0;
     while i < n {
         let first = std::num::wrapping_add_u64(x, 0x0100_0000 * i as u64);
-        laying::put_u64(room, place, first);
-        laying::put_u64(room, place + 8, y);
+        octets_write::put_u64(room, place, first);
+        octets_write::put_u64(room, place + 8, y);
         place += step as usize;
         i += 1;
     }
@@ -27,7 +27,7 @@ fn put_fields(room: &mut [u8], at: u16, step: u8, n: u16, x: u64, y: u64) {
 fn whole(n: u8, m: u16) -> [u8; 4720] {
     let links = 8 + 9 * n as u16;
     let mut image = [0u8; 4720];
-    laying::put_u64(&mut image, 0, HEAD);
+    octets_write::put_u64(&mut image, 0, HEAD);
     put_fields(&mut image, 8, 9, n as u16, 0x0200_0600_C800_01F4, 0);
     put_fields(
         &mut image,
@@ -43,14 +43,14 @@ fn whole(n: u8, m: u16) -> [u8; 4720] {
 // The same with its end, and with eight octets changed.
 pub(crate) fn changed(n: u8, m: u16, at: usize, x: u64) -> [u8; 4720] {
     let mut image = whole(n, m);
-    laying::put_u16(&mut image, 8 + 9 * n as usize + 16 * m as usize, 0x0900);
-    laying::put_u64(&mut image, at, x);
+    octets_write::put_u16(&mut image, 8 + 9 * n as usize + 16 * m as usize, 0x0900);
+    octets_write::put_u64(&mut image, at, x);
     image
 }
 
 pub(crate) fn label(n: u8, m: u16, size: usize, at: usize, x: u64) {
     let mut octets = [0u8; 8];
-    laying::put_u64(&mut octets, 0, x);
+    octets_write::put_u64(&mut octets, 0, x);
     say::text(b"image");
     say::two(n as u64, m as u64);
     say::two(size as u64, at as u64);
@@ -68,7 +68,7 @@ pub(crate) fn answer(a: Loaded) {
 fn read(n: u8, m: u16, size: usize, at: usize, x: u64) {
     let image = changed(n, m, at, x);
     label(n, m, size, at, x);
-    answer(image::check(&image[0..size % 4721]));
+    answer(image_read::check(&image[0..size % 4721]));
     say::end();
 }
 
@@ -215,7 +215,7 @@ fn load_into(image: &[u8], a: usize, c: usize, t: usize, l: usize) {
     let mut credits = [7u32; 2];
     let mut lasts = [9u64; 2];
     let mut links = [187u8; 26];
-    answer(loader::load(
+    answer(image_load::load(
         image,
         &mut accounts[0..a % 13],
         &mut credits[0..c % 3],

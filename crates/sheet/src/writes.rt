@@ -2,7 +2,7 @@
 // reading: code and offset behind a bar, then the room. Finding a link's row.
 use super::images;
 use super::say;
-use image_writer::Written;
+use image_write::Written;
 use rows::Found;
 
 const MOST: usize = 18446744073709551615;
@@ -15,30 +15,30 @@ fn answer(w: Written) {
 // Two account rows, and a third without its last octet.
 fn account_rows(image: &[u8]) -> [u8; 17] {
     let mut rows = [0u8; 17];
-    laying::copy(image, 11, 6, &mut rows, 0);
-    laying::copy(image, 20, 6, &mut rows, 6);
+    octets_write::copy(image, 11, 6, &mut rows, 0);
+    octets_write::copy(image, 20, 6, &mut rows, 6);
     rows
 }
 
 // Two link rows, and a third without its last octet.
 fn link_rows(image: &[u8]) -> [u8; 38] {
     let mut rows = [0u8; 38];
-    laying::copy(image, 29, 13, &mut rows, 0);
-    laying::copy(image, 45, 13, &mut rows, 13);
+    octets_write::copy(image, 29, 13, &mut rows, 0);
+    octets_write::copy(image, 45, 13, &mut rows, 13);
     rows
 }
 
 fn write_rows(image: &[u8], n: usize, m: usize, room: &mut [u8]) {
     let accounts = account_rows(image);
     let links = link_rows(image);
-    answer(image_writer::write(octets::u32_at(image, 4), &accounts, n, &links, m, room));
+    answer(image_write::write(octets::u32_at(image, 4), &accounts, n, &links, m, room));
 }
 
 // Reads the image, and writes its rows: both answers.
 fn value(at: usize, x: u64) {
     let image = images::changed(2, 2, at, x);
     images::label(2, 2, 61, at, x);
-    images::answer(image::check(&image[0..61]));
+    images::answer(image_read::check(&image[0..61]));
     write_rows(&image, 2, 2, &mut [0u8; 61]);
     say::end();
 }
@@ -246,7 +246,7 @@ fn modes() {
 fn limit(n: usize, m: usize) {
     say::text(b"zeros");
     say::two(n as u64, m as u64);
-    answer(image_writer::write(0x0300_0000, &[0u8; 390], n, &[0u8; 3341], m, &mut [0u8; 8]));
+    answer(image_write::write(0x0300_0000, &[0u8; 390], n, &[0u8; 3341], m, &mut [0u8; 8]));
     say::end();
 }
 

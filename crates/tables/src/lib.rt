@@ -86,7 +86,7 @@ pub fn terms_at(rows: &[u8], at: usize) -> Terms
         return terms_in(rows, at);
     }
     let mut row = [0u8; ACCOUNT_OCTETS];
-    laying::copy(rows, at, ACCOUNT_OCTETS, &mut row, 0);
+    octets_write::copy(rows, at, ACCOUNT_OCTETS, &mut row, 0);
     terms_in(&row, 0)
 }
 
@@ -113,7 +113,7 @@ pub fn link_at(rows: &[u8], at: usize) -> Link
         return link_in(rows, at);
     }
     let mut row = [0u8; LINK_OCTETS];
-    laying::copy(rows, at, LINK_OCTETS, &mut row, 0);
+    octets_write::copy(rows, at, LINK_OCTETS, &mut row, 0);
     link_in(&row, 0)
 }
 

@@ -6,7 +6,7 @@ use native.Mathlib.Omega.{arith}
 use Rattle.octets.proofs.Filled.{Filled, fill-start, fill-refused, fill-room, fill-next, fill-end}
 use Rattle.octets.proofs.Tests.{has-room}
 use Rattle.fields.specs.Fields.{tagAndLength}
-use Rattle.layout.proofs.Places.{small-product}
+use Rattle.image_layout.proofs.Places.{small-product}
 use Rattle.image_octets.proofs.Laying.{rowField, length-row-field}
 use borrow.Author.Needs.{needs}
 use Rattle.image_octets.proofs.put_fields.Statement.{statement}

@@ -4,7 +4,7 @@ use native.Mathlib.Omega.{arith}
 use lib.ListN.{length}
 use Rattle.octets.proofs.Runs.{put-refused, length-laid}
 use Rattle.octets.proofs.Tests.{has-room-first}
-use Rattle.layout.specs.Layout.{headSize}
+use Rattle.image_layout.specs.Layout.{headSize}
 use Rattle.image_octets.proofs.Laying.{head-size, head-laid, head-inside}
 use borrow.Author.Needs.{needs}
 use Rattle.image_octets.proofs.put_head.Statement.{statement}

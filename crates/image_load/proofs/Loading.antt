@@ -1,0 +1,102 @@
+-- Laws of what loading answers, case by case as the code makes them. Assumes nothing.
+use Prim.Native.Nat.{ℕ, _*_, _≤_, _<_}
+use mathlib.Core.Bool.{Bool, true, false}
+use mathlib.Core.List.{List}
+use mathlib.Core.Path.{_≡_, refl, sym, ap, _∙_}
+use native.Mathlib.Omega.{arith}
+use lib.Dec.{leb, eqb}
+use lib.ListN.{length}
+use borrow.Author.Tests.{le-leb, lt-leb, eq-eqb, ne-eqb, eqb-true, eqb-false}
+use Rattle.lists.proofs.Tests.{split}
+use Rattle.tables.specs.Rows.{accountOctets, linkOctets}
+use Rattle.tables.specs.Rules.{accountGood}
+use Rattle.image_layout.specs.Layout.{maxAccounts, maxLinks}
+use Rattle.image_read.specs.Read.{accountFields, refused, readImage}
+use Rattle.image_read.specs.declared.Loaded.{Loaded}
+use Rattle.image_read.proofs.Accepted.{accepted, refused-zeros, counted-account, good-account}
+use Rattle.image_read.proofs.Reading.{Few, few-read}
+use Rattle.image_load.specs.Loading.{Runs, runsHold, loadAnswer, answerFor}
+
+-- ---- runs long enough
+module _ (n m accounts credits lasts links : ℕ) where
+  pub accounts-short : accounts < accountOctets * n → false ≡ runsHold n m accounts credits lasts links
+  unfolding runsHold
+  accounts-short h = simp (lt-leb _ _ h)
+
+  module _ (h1 : accountOctets * n ≤ accounts) where
+    pub credits-short : credits < n → false ≡ runsHold n m accounts credits lasts links
+    unfolding runsHold
+    credits-short h = simp (le-leb _ _ h1, lt-leb _ _ h)
+
+    module _ (h2 : n ≤ credits) where
+      pub lasts-short : lasts < n → false ≡ runsHold n m accounts credits lasts links
+      unfolding runsHold
+      lasts-short h = simp (le-leb _ _ h1, le-leb _ _ h2, lt-leb _ _ h)
+
+      pub links-tested : n ≤ lasts → leb (linkOctets * m) links ≡ runsHold n m accounts credits lasts links
+      unfolding runsHold
+      links-tested h = simp (le-leb _ _ h1, le-leb _ _ h2, le-leb _ _ h)
+
+-- ---- the answer of loading
+module _ (s : List ℕ) (accounts credits lasts links : ℕ) (q : Loaded) (e : q ≡ readImage s) where
+  pub load-refused : (q .code ≡ 0 → ⊥) → q ≡ loadAnswer s accounts credits lasts links
+  unfolding loadAnswer
+  load-refused d = e ∙ simp (ne-eqb _ _ (λ z. d (ap (λ (x : Loaded). x .code) e ∙ z)))
+
+  module _ (z : q .code ≡ 0) (r : Bool) (v : r ≡ runsHold (q .settings .accounts) (q .settings .links) accounts credits lasts links) where
+    held : r ≡ runsHold (readImage s .settings .accounts) (readImage s .settings .links) accounts credits lasts links
+    held = v ∙ ap (λ (x : Loaded). runsHold (x .settings .accounts) (x .settings .links) accounts credits lasts links) e
+
+    pub load-held : r ≡ true → q ≡ loadAnswer s accounts credits lasts links
+    unfolding loadAnswer
+    load-held t = e ∙ simp (eq-eqb _ _ (sym (ap (λ (x : Loaded). x .code) e) ∙ z), ← held, t)
+
+    pub load-short : r ≡ false → (w : Loaded) → w ≡ refused 26 (length s) → w ≡ loadAnswer s accounts credits lasts links
+    unfolding loadAnswer
+    load-short t w u = u ∙ simp (eq-eqb _ _ (sym (ap (λ (x : Loaded). x .code) e) ∙ z), ← held, t)
+
+-- by cases of what loading answers
+pub by-loading : (s : List ℕ) (accounts credits lasts links : ℕ) (P : Loaded → Type 0)
+    → ((readImage s .code ≡ 0 → ⊥) → P (readImage s))
+    → (readImage s .code ≡ 0 → runsHold (readImage s .settings .accounts) (readImage s .settings .links) accounts credits lasts links ≡ true → P (readImage s))
+    → (readImage s .code ≡ 0 → runsHold (readImage s .settings .accounts) (readImage s .settings .links) accounts credits lasts links ≡ false → P (refused 26 (length s)))
+    → P (loadAnswer s accounts credits lasts links)
+unfolding loadAnswer
+by-loading s accounts credits lasts links P f g h =
+    split (eqb (readImage s .code) 0)
+    (λ e.
+    split (runsHold (readImage s .settings .accounts) (readImage s .settings .links) accounts credits lasts links)
+    (λ t. simp (e, t) (g (eqb-true _ _ e) t))
+    (λ t. simp (e, t) (h (eqb-true _ _ e) t)))
+    (λ e. simp e (f (eqb-false _ _ e)))
+
+pub few-loaded : (s : List ℕ) (accounts credits lasts links : ℕ) → Few (loadAnswer s accounts credits lasts links)
+few-loaded s accounts credits lasts links =
+    by-loading s accounts credits lasts links Few (λ d. few-read s) (λ e t. few-read s) (λ e t. (omega arith, omega arith))
+
+module _ (s : List ℕ) (accounts credits lasts links : ℕ) (q : Loaded) (e : q ≡ loadAnswer s accounts credits lasts links) where
+  pub few-accounts-loaded : q .settings .accounts ≤ maxAccounts
+  few-accounts-loaded = rw e (few-loaded s accounts credits lasts links .0)
+
+  pub few-links-loaded : q .settings .links ≤ maxLinks
+  few-links-loaded = rw e (few-loaded s accounts credits lasts links .1)
+
+-- ---- a refusal has no counts, and what is accepted has good accounts
+module _ (s : List ℕ) (r : Runs) (q : Loaded) (e : q ≡ answerFor s r) where
+  by-answer : (P : Loaded → Type 0)
+      → ((readImage s .code ≡ 0 → ⊥) → P (readImage s)) → (readImage s .code ≡ 0 → P (readImage s)) → P (refused 26 (length s)) → P q
+  by-answer P f g h = rw e (by-loading s (length (r .accounts)) (length (r .credits)) (length (r .lasts)) (length (r .links)) P f (λ z t. g z) (λ z t. h))
+
+  pub refused-none : (q .code ≡ 0 → ⊥) → (q .settings .accounts ≡ 0) × (q .settings .links ≡ 0)
+  refused-none =
+      by-answer (λ x. (x .code ≡ 0 → ⊥) → (x .settings .accounts ≡ 0) × (x .settings .links ≡ 0))
+      (λ d f. let z = refused-zeros s d in (z .1, z .2))
+      (λ z f. absurd (f z))
+      (λ f. (refl, refl))
+
+  pub loaded-good : q .code ≡ 0 → (i : ℕ) → i < q .settings .accounts → accountGood (accountFields s) i ≡ true
+  loaded-good =
+      by-answer (λ x. x .code ≡ 0 → (i : ℕ) → i < x .settings .accounts → accountGood (accountFields s) i ≡ true)
+      (λ d z. absurd (d z))
+      (λ z w i l. let k = accepted s z .accounts-are in good-account s i (counted-account s i (omega arith)))
+      (λ z. absurd (omega arith))

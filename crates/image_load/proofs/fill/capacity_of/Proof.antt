@@ -1,0 +1,21 @@
+-- `capacity_of`: the values read at their data. Assumes nothing.
+use Rattle.image_load.proofs.Filling.{capacity-read}
+use borrow.Author.Needs.{needs}
+use Rattle.image_load.proofs.fill.capacity_of.Statement.{statement}
+use Rattle.image_load.proofs.fill.capacity_of.Tie as tie
+
+data-place-requires : tie.Need-data-place-requires
+data-place-requires c κs = search needs
+
+terms-at-requires : tie.Need-terms-at-requires
+terms-at-requires c κs = search needs
+
+capacity-requires : tie.Need-capacity-requires
+capacity-requires c κs = search needs
+
+returns : tie.Need-returns
+returns c = search capacity-read
+
+pub capacity-of-spec : {M : Type 1} → statement M
+capacity-of-spec =
+    tie.close (tie.spec data-place-requires terms-at-requires capacity-requires returns)

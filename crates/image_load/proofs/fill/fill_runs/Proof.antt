@@ -1,0 +1,59 @@
+-- `fill_runs`: run by run. Assumes nothing.
+use Rattle.image_load.proofs.Filling.{accounts-laid, links-laid}
+use borrow.Author.Needs.{needs}
+use Rattle.image_load.proofs.fill.fill_runs.Statement.{statement}
+use Rattle.image_load.proofs.fill.fill_runs.Tie as tie
+
+data-place-requires : tie.Need-data-place-requires
+data-place-requires c κs = search needs
+
+cast-copy-rows : tie.Need-cast-copy-rows
+cast-copy-rows c = search needs
+
+copy-rows-requires : tie.Need-copy-rows-requires
+copy-rows-requires c κs = search needs
+
+fill-credits-requires : tie.Need-fill-credits-requires
+fill-credits-requires c κs = search needs
+
+clear-lasts-requires : tie.Need-clear-lasts-requires
+clear-lasts-requires c κs = search needs
+
+data-place-requires-2 : tie.Need-data-place-requires-2
+data-place-requires-2 c κs = search needs
+
+cast-copy-rows-2 : tie.Need-cast-copy-rows-2
+cast-copy-rows-2 c = search needs
+
+copy-rows-requires-2 : tie.Need-copy-rows-requires-2
+copy-rows-requires-2 c κs = search needs
+
+same-length : tie.Need-same-length
+same-length c = search needs
+
+same-length-2 : tie.Need-same-length-2
+same-length-2 c = search needs
+
+same-length-3 : tie.Need-same-length-3
+same-length-3 c = search needs
+
+same-length-4 : tie.Need-same-length-4
+same-length-4 c = search needs
+
+returns : tie.Need-returns
+returns c = (
+  accounts-laid _ _ _ _ _ (c .before .before .before .before .before .before .before .before .before .before .before .before .before .before .before .before .before .data-place .ensures) (c .before .before .before .before .before .before .before .before .before .before .before .before .before .before .before .copy-rows .ensures),
+  (
+    c .before .before .before .before .before .before .before .before .before .before .before .fill-credits .ensures,
+    (
+      c .before .before .before .before .before .before .before .clear-lasts .ensures,
+      links-laid _ _ _ _ _ _ (c .before .before .before .before .data-place2 .ensures) (c .before .before .copy-rows2 .ensures),
+    ),
+  ),
+)
+
+pub fill-runs-spec : {M : Type 1} → statement M
+fill-runs-spec =
+    tie.close
+    (tie.spec data-place-requires cast-copy-rows copy-rows-requires fill-credits-requires clear-lasts-requires
+    data-place-requires-2 cast-copy-rows-2 copy-rows-requires-2 same-length same-length-2 same-length-3 same-length-4 returns)

@@ -1,0 +1,95 @@
+-- Laws of what reading and loading answer, case by case as the code makes them. Assumes nothing.
+use Prim.Native.Nat.{ℕ, _≤_, _<_}
+use mathlib.Core.List.{List}
+use mathlib.Core.Path.{_≡_, sym, ap, ap₂, _∙_}
+use native.Mathlib.Omega.{arith}
+use lib.Dec.{ltb, eqb}
+use lib.ListN.{length}
+use borrow.Author.Tests.{lt-ltb, le-ltb, ltb-true, ltb-false, eq-eqb, ne-eqb, eqb-true, eqb-false}
+use Rattle.tables.specs.Rows.{settingsOf}
+use Rattle.octets.specs.Numbers.{numberAt}
+use Rattle.lists.proofs.Tests.{split}
+use Rattle.lists.proofs.Leading.{leading-high}
+use Rattle.image_layout.specs.Layout.{accountTag, linkTag, fieldPlace, dataPlace, imageLength, maxAccounts, maxLinks}
+use Rattle.image_read.specs.Read.{headCode, nextCode, goodField, accountCount, linkCount, refused, readEnd, readImage}
+use Rattle.image_read.specs.declared.Loaded.{Loaded}
+
+-- ---- counts are within the limits
+pub few-accounts : (s : List ℕ) → accountCount s ≤ maxAccounts
+unfolding accountCount
+few-accounts s = leading-high (λ i. goodField s accountTag i 0) maxAccounts
+
+pub few-links : (s : List ℕ) (n : ℕ) → linkCount s n ≤ maxLinks
+unfolding linkCount
+few-links s n = leading-high (λ j. goodField s linkTag n j) maxLinks
+
+-- ---- the answer at the last field
+module _ (s : List ℕ) (n m : ℕ) (code : ℕ) (e : code ≡ nextCode s n m) where
+  pub end-refused : (code ≡ 0 → ⊥) → (at : ℕ) (q : Loaded) → at ≡ fieldPlace n m → q ≡ refused code at → q ≡ readEnd s n m
+  unfolding readEnd
+  end-refused d at q p v = v ∙ ap₂ refused e p ∙ simp (ne-eqb _ _ (λ z. d (e ∙ z)))
+
+  module _ (z : code ≡ 0) (end : ℕ) (p : end ≡ dataPlace n m) where
+    pub end-surplus : end < length s → (q : Loaded) → q ≡ refused 25 end → q ≡ readEnd s n m
+    unfolding readEnd
+    end-surplus h q v = v ∙ ap (refused 25) p ∙ simp (eq-eqb _ _ (sym e ∙ z), lt-ltb _ _ (rw p at h))
+
+    pub end-accepted : length s ≤ end → (k : ℕ) → k ≡ numberAt 4 s 4
+        → _≡_ {A = Loaded} (record { code = 0; offset = length s; settings = settingsOf k n m }) (readEnd s n m)
+    unfolding readEnd
+    end-accepted h k c = rw c (simp (eq-eqb _ _ (sym e ∙ z), le-ltb _ _ (rw p at h)))
+
+-- ---- the answer
+module _ (s : List ℕ) (code : ℕ) (e : code ≡ headCode s) where
+  pub head-refused : (code ≡ 0 → ⊥) → (q : Loaded) → q ≡ refused code 0 → q ≡ readImage s
+  unfolding readImage
+  head-refused d q v = v ∙ ap (λ (k : ℕ). refused k 0) e ∙ simp (ne-eqb _ _ (λ z. d (e ∙ z)))
+
+  pub head-passed : code ≡ 0 → (n m : ℕ) (q : Loaded) → n ≡ accountCount s → m ≡ linkCount s n → q ≡ readEnd s n m → q ≡ readImage s
+  unfolding readImage
+  head-passed z n m q f g v =
+      v ∙ ap (readEnd s n) g ∙ ap (λ (k : ℕ). readEnd s k (linkCount s k)) f ∙ simp (eq-eqb _ _ (sym e ∙ z))
+
+-- ---- by cases of what reading answers
+module _ (s : List ℕ) (P : Loaded → Type 0) where
+  pub by-end : (n m : ℕ)
+      → ((nextCode s n m ≡ 0 → ⊥) → P (refused (nextCode s n m) (fieldPlace n m)))
+      → (nextCode s n m ≡ 0 → imageLength n m < length s → P (refused 25 (imageLength n m)))
+      → (nextCode s n m ≡ 0 → length s ≤ imageLength n m → P (record { code = 0; offset = length s; settings = settingsOf (numberAt 4 s 4) n m }))
+      → P (readEnd s n m)
+  unfolding readEnd
+  by-end n m f g h =
+      split (eqb (nextCode s n m) 0)
+      (λ e.
+      split (ltb (imageLength n m) (length s))
+      (λ l. simp (e, l) (g (eqb-true _ _ e) (ltb-true _ _ l)))
+      (λ l. simp (e, l) (h (eqb-true _ _ e) (ltb-false _ _ l))))
+      (λ e. simp e (f (eqb-false _ _ e)))
+
+  pub by-reading : ((headCode s ≡ 0 → ⊥) → P (refused (headCode s) 0))
+      → (headCode s ≡ 0 → P (readEnd s (accountCount s) (linkCount s (accountCount s))))
+      → P (readImage s)
+  unfolding readImage
+  by-reading f g =
+      split (eqb (headCode s) 0)
+      (λ e. simp e (g (eqb-true _ _ e)))
+      (λ e. simp e (f (eqb-false _ _ e)))
+
+-- ---- so are those of an answer
+abbrev pub Few : Loaded → Type 0
+Few q = (q .settings .accounts ≤ maxAccounts) × (q .settings .links ≤ maxLinks)
+
+pub few-read : (s : List ℕ) → Few (readImage s)
+few-read s =
+    by-reading s Few
+    (λ d. (omega arith, omega arith))
+    (λ z. by-end s Few (accountCount s) (linkCount s (accountCount s))
+    (λ d. (omega arith, omega arith))
+    (λ e h. (omega arith, omega arith))
+    (λ e h. (few-accounts s, few-links s (accountCount s))))
+
+pub few-accounts-read : (s : List ℕ) (q : Loaded) → q ≡ readImage s → q .settings .accounts ≤ maxAccounts
+few-accounts-read s q e = rw e (few-read s .0)
+
+pub few-links-read : (s : List ℕ) (q : Loaded) → q ≡ readImage s → q .settings .links ≤ maxLinks
+few-links-read s q e = rw e (few-read s .1)

@@ -1,0 +1,38 @@
+-- `read_end`: the code, the octets that follow, or success. Assumes nothing.
+use Rattle.image_read.proofs.Reading.{end-refused, end-surplus, end-accepted}
+use borrow.Author.Needs.{needs}
+use Rattle.image_read.proofs.count.read_end.Statement.{statement}
+use Rattle.image_read.proofs.count.read_end.Tie as tie
+
+next-code-requires : tie.Need-next-code-requires
+next-code-requires c κs = search needs
+
+field-place-requires : tie.Need-field-place-requires
+field-place-requires c κs = search needs
+
+refused-requires : tie.Need-refused-requires
+refused-requires c κs = search needs
+
+returns : tie.Need-returns
+returns c = search end-refused
+
+data-place-requires : tie.Need-data-place-requires
+data-place-requires c κs = search needs
+
+refused-requires-2 : tie.Need-refused-requires-2
+refused-requires-2 c κs = search needs
+
+returns-2 : tie.Need-returns-2
+returns-2 c = search end-surplus
+
+u32-at-requires : tie.Need-u32-at-requires
+u32-at-requires c κs = search needs
+
+returns-3 : tie.Need-returns-3
+returns-3 c = search end-accepted
+
+pub read-end-spec : {M : Type 1} → statement M
+read-end-spec =
+    tie.close
+    (tie.spec next-code-requires field-place-requires refused-requires returns data-place-requires refused-requires-2 returns-2
+    u32-at-requires returns-3)

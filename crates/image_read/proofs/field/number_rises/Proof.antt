@@ -1,0 +1,25 @@
+-- `number_rises`: the first link, or two numbers compared. Assumes nothing.
+use Rattle.tables.proofs.Rules.{rises-first}
+use Rattle.image_read.proofs.Values.{rises-above}
+use borrow.Author.Needs.{needs}
+use Rattle.image_read.proofs.field.number_rises.Statement.{statement}
+use Rattle.image_read.proofs.field.number_rises.Tie as tie
+
+returns : tie.Need-returns
+returns c = search rises-first
+
+sub-data-place : tie.Need-sub-data-place
+sub-data-place c = search needs
+
+data-place-requires : tie.Need-data-place-requires
+data-place-requires c κs = search needs
+
+u16-at-requires : tie.Need-u16-at-requires
+u16-at-requires c κs = search needs
+
+returns-2 : tie.Need-returns-2
+returns-2 c = search rises-above
+
+pub number-rises-spec : {M : Type 1} → statement M
+number-rises-spec =
+    tie.close (tie.spec returns sub-data-place data-place-requires u16-at-requires returns-2)

@@ -1,0 +1,63 @@
+// How many accounts and links an image has, and what reading it answers.
+ghost use mathlib.Core.Path.{_≡_};
+ghost use Rattle.image_read.specs.Read.{accountCount, linkCount, readEnd};
+use super::Loaded;
+use super::field;
+use super::refused;
+use image_layout::codes;
+use tables::Settings;
+
+// The accounts behind the head, up to the first field that is none or is refused.
+pub(crate) fn count_accounts(image: &[u8]) -> u16
+    ensures { λ r. ⌜ r ≡ accountCount (now (image .entry)) ⌝ }
+{
+    let mut i: u16 = 0;
+    while i < image_layout::MAX_ACCOUNTS {
+        if !field::good_account(image, i) {
+            return i;
+        }
+        i += 1;
+    }
+    i
+}
+
+// The links behind the accounts, up to the first field that is none or is refused. Without accounts there are none.
+pub(crate) fn count_links(image: &[u8], accounts: u16) -> u16
+    ensures { λ r. ⌜ r ≡ linkCount (now (image .entry)) accounts ⌝ }
+{
+    if accounts == 0 {
+        return 0;
+    }
+    let mut j: u16 = 0;
+    while j < image_layout::MAX_LINKS {
+        if !field::good_link(image, accounts, j) {
+            return j;
+        }
+        j += 1;
+    }
+    j
+}
+
+// The answer at the field behind so many accounts and links: its code, or what the end says.
+pub(crate) fn read_end(image: &[u8], accounts: u16, links: u16) -> Loaded
+    ensures { λ r. ⌜ r ≡ readEnd (now (image .entry)) accounts links ⌝ }
+{
+    let code = field::next_code(image, accounts, links);
+    if code != 0 {
+        return refused(code, image_layout::field_place(accounts, links));
+    }
+    let end = image_layout::data_place(accounts, links);
+    if end < image.len() {
+        return refused(codes::SURPLUS, end);
+    }
+    let settings = Settings {
+        constant: octets::u32_at(image, image_layout::CONSTANT_PLACE),
+        accounts: accounts as usize,
+        links: links as usize,
+    };
+    Loaded {
+        code: 0,
+        offset: image.len(),
+        settings,
+    }
+}

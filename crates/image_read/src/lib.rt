@@ -1,0 +1,45 @@
+// The configuration image: what reading any octets as one answers.
+ghost use mathlib.Core.Path.{_≡_};
+ghost use Rattle.image_read.specs.Read.{refused, readImage};
+
+mod count;
+mod field;
+
+use tables::Settings;
+
+// What reading or loading an image answers: the code, the offset that it speaks of, and on success the settings that the
+// image names.
+pub struct Loaded {
+    pub code: u8,
+    pub offset: usize,
+    pub settings: Settings,
+}
+
+// A refusal: the code and the offset, and zeros.
+pub fn refused(code: u8, offset: usize) -> Loaded
+    ensures { λ r. ⌜ r ≡ refused code offset ⌝ }
+{
+    let settings = Settings {
+        constant: 0,
+        accounts: 0,
+        links: 0,
+    };
+    Loaded {
+        code,
+        offset,
+        settings,
+    }
+}
+
+// What reading an image answers, whatever its octets.
+pub fn check(image: &[u8]) -> Loaded
+    ensures { λ r. ⌜ r ≡ readImage (now (image .entry)) ⌝ }
+{
+    let code = field::head_code(image);
+    if code != 0 {
+        return refused(code, 0);
+    }
+    let accounts = count::count_accounts(image);
+    let links = count::count_links(image, accounts);
+    count::read_end(image, accounts, links)
+}

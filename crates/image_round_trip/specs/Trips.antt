@@ -1,0 +1,73 @@
+-- Demand 2: the round trips, both ways, over the layout and through the very definitions that the contracts of `load` and `write`
+-- cite; proved in proofs/Trips.antt.
+use Prim.Native.Nat.{ℕ, _*_, _^_, _≤_, _<_}
+use mathlib.Core.Bool.{true}
+use mathlib.Core.List.{List}
+use mathlib.Core.Path.{_≡_}
+use lib.ListN.{length, getD, take, replicate}
+use Rattle.octets.specs.Runs.{put}
+use Rattle.tables.specs.Rows.{Config, accountOctets, linkOctets, accountTable, configFor, settingsOf}
+use Rattle.image_layout.specs.Layout.{imageOf}
+use Rattle.image_read.specs.Read.{readImage}
+use Rattle.image_load.specs.Loading.{Runs, runsOf, Loading, loadingOf, accountRows, linkRows, capacities, longEnough, loading}
+use Rattle.image_write.specs.Writing.{countsGood, valueAnswer, writtenOf, writingOf, writing}
+
+-- ---- the octets that are accepted are the images of good tables, and no others
+
+-- the tables that accepted octets name
+abbrev pub tablesIn : List ℕ → Config
+tablesIn s =
+    configFor (readImage s .settings)
+    (accountRows s (readImage s .settings .accounts))
+    (linkRows s (readImage s .settings .accounts) (readImage s .settings .links))
+
+-- good tables are those with neither a bad count nor a bad value
+abbrev pub AcceptedIsImage : Type 0
+AcceptedIsImage =
+    (s : List ℕ) → ((i : ℕ) → getD s i 0 < 256) → readImage s .code ≡ 0
+    → (imageOf (tablesIn s) ≡ s)
+    × (countsGood (tablesIn s .accounts) (tablesIn s .accountCount) (tablesIn s .links) (tablesIn s .linkCount) ≡ true)
+    × (valueAnswer (tablesIn s) .code ≡ 0)
+
+abbrev pub ImageIsAccepted : Type 0
+ImageIsAccepted =
+    (g : Config) → g .constant < 2 ^ 32 → countsGood (g .accounts) (g .accountCount) (g .links) (g .linkCount) ≡ true → valueAnswer g .code ≡ 0
+    → readImage (imageOf g)
+    ≡ record { code = 0; offset = length (imageOf g); settings = settingsOf (g .constant) (g .accountCount) (g .linkCount) }
+
+-- ---- write, then read
+
+-- what was written: the image's octets in the room
+abbrev pub writtenImage : Config → List ℕ → List ℕ
+writtenImage g d = take (writing g d .answer .offset) (writing g d .room)
+
+-- loading what was written from these tables: their constant field, counts and rows, credits at capacity, last times 0
+unfoldable pub readBack : Config → Runs → Loading
+readBack g r =
+    loadingOf
+    (record { code = 0; offset = length (imageOf g); settings = settingsOf (g .constant) (g .accountCount) (g .linkCount) })
+    (runsOf
+    (put (r .accounts) 0 (take (accountOctets * g .accountCount) (g .accounts)))
+    (put (r .credits) 0 (capacities (accountTable (g .accounts)) (g .accountCount)))
+    (put (r .lasts) 0 (replicate (g .accountCount) 0))
+    (put (r .links) 0 (take (linkOctets * g .linkCount) (g .links))))
+
+-- for any tables that the writer accepts, with whatever rows lie beyond the counts, any room and any runs that are long enough; the
+-- constant field is one of 32 bits
+abbrev pub WriteRead : Type 0
+WriteRead =
+    (g : Config) (d : List ℕ) (r : Runs) → g .constant < 2 ^ 32 → writing g d .answer .code ≡ 0
+    → longEnough (g .accountCount) (g .linkCount) r ≡ true
+    → loading (writtenImage g d) r ≡ readBack g r
+
+-- ---- read, then write
+
+-- the tables that loading left, with its answer
+abbrev pub loadedTables : List ℕ → Runs → Config
+loadedTables s r = configFor (loading s r .answer .settings) (loading s r .runs .accounts) (loading s r .runs .links)
+
+-- for any octets that load, into any runs, and any room that is long enough: the same octets, and the room beyond them as it was
+abbrev pub ReadWrite : Type 0
+ReadWrite =
+    (s : List ℕ) (r : Runs) (d : List ℕ) → ((i : ℕ) → getD s i 0 < 256) → loading s r .answer .code ≡ 0 → length s ≤ length d
+    → writing (loadedTables s r) d ≡ writingOf (writtenOf 0 (length s)) (put d 0 s)

@@ -1,0 +1,35 @@
+-- Request Q-1 whole. Assumes nothing.
+use Rattle.lists.proofs.Claims.{picked-answers}
+use Rattle.receive.proofs.Claims.{possible-answers, answers-apart, refused-keeps, unknown-exactly, row-is-first, row-is-nowhere, rows-beyond, changes-own-record, stamp-and-number-kept, by-own-record}
+use Rattle.receive_sequence.proofs.Claims.{pass-table}
+use Rattle.receive_history.specs.Claims.{ReceivingEnd}
+use Rattle.receive_history.proofs.Counts.{one-copy-each}
+use Rattle.receive_history.proofs.Isolation.{receptions-apart}
+use Rattle.receive_history.proofs.Meeting.{others-in-words, copies-in-words, copy-meets-delivery, met-once, alone-delivered}
+use Rattle.receive_history.proofs.Rule.{rule-of-receptions, rule-of-next}
+
+pub receiving-end : ReceivingEnd
+receiving-end =
+    record {
+      possible-answers = possible-answers;
+      answers-apart = answers-apart;
+      refused-keeps = refused-keeps;
+      unknown-exactly = unknown-exactly;
+      row-is-first = row-is-first;
+      row-is-nowhere = row-is-nowhere;
+      rows-beyond = rows-beyond;
+      changes-own-record = changes-own-record;
+      stamp-and-number-kept = stamp-and-number-kept;
+      by-own-record = by-own-record;
+      pass-table = pass-table;
+      rule = rule-of-receptions;
+      rule-of-next = rule-of-next;
+      others-in-words = others-in-words;
+      copies-in-words = copies-in-words;
+      copy-meets-delivery = copy-meets-delivery;
+      met-once = met-once;
+      one-copy-each = one-copy-each;
+      alone-delivered = alone-delivered;
+      apart = receptions-apart;
+      picked-answers = picked-answers;
+    }

@@ -1,0 +1,134 @@
+-- Isolation: a link's answers and its record go by its SkewMax and its own frames. Assumes nothing.
+use Prim.Native.Nat.{ℕ, _+_, _*_, _≤_, _<_}
+use mathlib.Core.Bool.{false, false≢true}
+use mathlib.Core.List.{List}
+use mathlib.Core.Path.{_≡_, refl, sym, ap, ap₂, _∙_}
+use native.Mathlib.Omega.{arith}
+use lib.ListN.{length, take, drop}
+use borrow.Author.Tests.{eqb-true, eqb-false}
+use Rattle.lists.specs.History.{Machine}
+use Rattle.lists.specs.Lists.{only}
+use Rattle.lists.proofs.History.{SimulatesPicked, alike}
+use Rattle.octets.proofs.Parts.{part-same, part-take}
+use Rattle.rows.specs.declared.Found.{Found}
+use Rattle.rows.specs.declared.Found.the-variants.{At, Nowhere}
+use Rattle.receive_sequence.specs.Sequence.{numberCount}
+use Rattle.receive.specs.declared.Arrival.{Arrival}
+use Rattle.receive.specs.declared.Reception.the-variants.{UnknownLink}
+use Rattle.receive.specs.Lent.{skewIn, recordWords, rowFound, word}
+use Rattle.receive.specs.Receive.{After, answerBy, received}
+use Rattle.receive.specs.Claims.{SameRecord}
+use Rattle.receive.proofs.Judging.{call-nowhere, by-row}
+use Rattle.receive.proofs.Kept.{left-beside}
+use Rattle.receive.proofs.Claims.{row-is-first, record-whole, changes-own-record, by-own-record}
+use Rattle.receive_history.specs.History.{Answered, answeredOf, receiving, final, Empty, Octets, onLink, skewBy, recordBy, recordOf}
+use Rattle.receive_history.specs.Isolation.{SameOnLink, ReceptionsApart}
+use Rattle.receive_history.proofs.Memory.{some?, amount}
+use Rattle.receive_history.proofs.Rule.{rows-apart}
+
+-- ---- a call keeps how many words there are
+length-call : (rows r : List ℕ) (f : Arrival) → f .number < numberCount → length (received rows r f .records) ≡ length r
+length-call rows r f h = cases (rowFound rows (length r) (f .link)) refl
+  where
+    cases : (d : Found) → rowFound rows (length r) (f .link) ≡ d → length (received rows r f .records) ≡ length r
+    cases Nowhere e = ap (λ (z : After). length (z .records)) (call-nowhere rows r f e)
+    cases (At j) e = changes-own-record rows r f h j e .long
+
+-- a call on another link leaves the record of row i as it is
+beside : (rows r : List ℕ) (link i : ℕ) → rowFound rows (length r) link ≡ At i → (f : Arrival) → f .number < numberCount → onLink link f ≡ false
+    → SameRecord (received rows r f .records) i r i
+beside rows r link i e f h off =
+    by-row rows r f (λ z. SameRecord (z .records) i r i)
+    (λ q k l. refl)
+    (λ j q. left-beside r j f (answerBy (skewIn rows j) r j f) h i (rows-apart rows (length r) link (f .link) i j e q (λ m. eqb-false _ _ off (sym m))))
+
+-- ---- a history on records r, and its frames of one link on records s, whose record of the link is the same
+module _ (link : ℕ) (rows : List ℕ) (words j : ℕ) (e : rowFound rows words link ≡ At j)
+    (rows′ : List ℕ) (words′ i : ℕ) (e′ : rowFound rows′ words′ link ≡ At i) (skew : skewIn rows j ≡ skewIn rows′ i) where
+  abbrev Same : List ℕ → List ℕ → Type 0
+  Same s r = (length r ≡ words) × (length s ≡ words′) × SameRecord r j s i
+
+  known : (h : List Arrival) → Octets h → SimulatesPicked (receiving rows) (receiving rows′) (onLink link) Same h
+  known h o =
+      record {
+        picked = λ f m on s r q.
+            let l : f .link ≡ link = eqb-true _ _ on in
+            let p : rowFound rows (length r) (f .link) ≡ At j = ap₂ (rowFound rows) (q .0) l ∙ e in
+            let p′ : rowFound rows′ (length s) (f .link) ≡ At i = ap₂ (rowFound rows′) (q .1) l ∙ e′ in
+            let b = by-own-record rows r j rows′ s i f (o f m) p p′ skew (q .2) in
+            (ap (answeredOf f) (b .0), (length-call rows r f (o f m) ∙ q .0, length-call rows′ s f (o f m) ∙ q .1, b .1));
+        others = λ f m off s r q.
+            let p : rowFound rows (length r) link ≡ At j = ap (λ (k : ℕ). rowFound rows k link) (q .0) ∙ e in
+            (length-call rows r f (o f m) ∙ q .0, q .1, λ k l. beside rows r link j p f (o f m) off k l ∙ q .2 k l);
+      }
+
+-- ---- a link with no row: every frame on it is unknown
+abbrev refusing : Machine Unit Arrival Answered
+refusing = record { says = λ _ f. answeredOf f UnknownLink; leaves = λ _ _. tt }
+
+unknown : (link : ℕ) (rows : List ℕ) (words : ℕ) → rowFound rows words link ≡ Nowhere → (h : List Arrival) → Octets h
+    → SimulatesPicked (receiving rows) refusing (onLink link) (λ _ r. length r ≡ words) h
+unknown link rows words e h o =
+    record {
+      picked = λ f m on _ r n.
+          let p : rowFound rows (length r) (f .link) ≡ Nowhere = ap₂ (rowFound rows) n (eqb-true _ _ on) ∙ e in
+          (ap (λ (z : After). answeredOf f (z .says)) (call-nowhere rows r f p), length-call rows r f (o f m) ∙ n);
+      others = λ f m off _ r n. length-call rows r f (o f m) ∙ n;
+    }
+
+-- ---- records as lists of words
+same-words : (r s : List ℕ) (j i : ℕ) → recordWords * j + recordWords ≤ length r → recordWords * i + recordWords ≤ length s → SameRecord r j s i
+    → take recordWords (drop (recordWords * j) r) ≡ take recordWords (drop (recordWords * i) s)
+unfolding word
+same-words r s j i h l same =
+    sym (part-take recordWords r (recordWords * j) h)
+    ∙ part-same recordWords r s (recordWords * j) (recordWords * i) same
+    ∙ part-take recordWords s (recordWords * i) l
+
+record-at : (rows w : List ℕ) (words link : ℕ) (d : Found) → length w ≡ words → rowFound rows words link ≡ d
+    → recordOf rows w link ≡ recordBy w d
+record-at rows w words link d n e = ap (recordBy w) (ap (λ (k : ℕ). rowFound rows k link) n ∙ e)
+
+-- ---- two histories
+module _ (link : ℕ) (rows r : List ℕ) (z : Empty rows r) (h : List Arrival) (o : Octets h)
+    (rows′ r′ : List ℕ) (z′ : Empty rows′ r′) (h′ : List Arrival) (o′ : Octets h′) (g : only (onLink link) h ≡ only (onLink link) h′) where
+  both-unknown : rowFound rows (length r) link ≡ Nowhere → rowFound rows′ (length r′) link ≡ Nowhere → SameOnLink link rows r h rows′ r′ h′
+  both-unknown e e′ =
+      let a = alike h h′ (unknown link rows (length r) e h o) (unknown link rows′ (length r′) e′ h′ o′) g tt r refl r′ refl in
+      record {
+        says = a .0;
+        leaves =
+            record-at rows (final rows r h) (length r) link Nowhere (a .1) e
+            ∙ sym (record-at rows′ (final rows′ r′ h′) (length r′) link Nowhere (a .2) e′);
+      }
+
+  both-known : (j i : ℕ) → rowFound rows (length r) link ≡ At j → rowFound rows′ (length r′) link ≡ At i → skewIn rows j ≡ skewIn rows′ i → SameOnLink link rows r h rows′ r′ h′
+  both-known j i e e′ skew =
+      let in-use = row-is-first rows (length r) link j e .0 in
+      let in-use′ = row-is-first rows′ (length r′) link i e′ .0 in
+      let a = alike h h′
+      (known link rows (length r) j e rows′ (length r′) i e′ skew h o)
+      (known link rows′ (length r′) i e′ rows′ (length r′) i e′ refl h′ o′) g
+      r′ r (refl, refl, λ k l. z j in-use k l ∙ sym (z′ i in-use′ k l)) r′ (refl, refl, λ k l. refl) in
+      let n : length (final rows r h) ≡ length r = a .1 .0 in
+      let m : length (final rows′ r′ h′) ≡ length r′ = a .2 .0 in
+      let w = record-whole rows (length r) link j e in
+      let v = record-whole rows′ (length r′) link i e′ in
+      record {
+        says = a .0;
+        leaves =
+            record-at rows (final rows r h) (length r) link (At j) n e
+            ∙ same-words (final rows r h) (final rows′ r′ h′) j i (omega arith) (omega arith)
+            (λ k l. a .1 .2 k l ∙ sym (a .2 .2 k l))
+            ∙ sym (record-at rows′ (final rows′ r′ h′) (length r′) link (At i) m e′);
+      }
+
+  same-on-link : (d d′ : Found) → rowFound rows (length r) link ≡ d → rowFound rows′ (length r′) link ≡ d′ → skewBy rows d ≡ skewBy rows′ d′ → SameOnLink link rows r h rows′ r′ h′
+  same-on-link Nowhere Nowhere e e′ s = both-unknown e e′
+  same-on-link (At j) (At i) e e′ s = both-known j i e e′ (ap amount s)
+  same-on-link Nowhere (At i) e e′ s = absurd (false≢true (ap some? s))
+  same-on-link (At j) Nowhere e e′ s = absurd (false≢true (sym (ap some? s)))
+
+pub receptions-apart : ReceptionsApart
+receptions-apart link rows r z h o rows′ r′ z′ h′ o′ s g =
+    same-on-link link rows r z h o rows′ r′ z′ h′ o′ g (rowFound rows (length r) link) (rowFound rows′ (length r′) link) refl refl s

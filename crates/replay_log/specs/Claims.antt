@@ -1,0 +1,47 @@
+-- What holds of logs whatever they are (document 01, "The replay program"); proved in proofs/Settled.antt and proofs/Claims.antt.
+use Prim.Native.Nat.{ℕ, _+_, _≤_, _<_}
+use mathlib.Core.Bool.{Bool, false}
+use mathlib.Core.List.{List, _++_}
+use mathlib.Core.Path.{_≡_}
+use lib.ListN.{length, getD}
+use Rattle.frame.specs.Limits.{largestFrame}
+use Rattle.tables.specs.Rows.{Config}
+use Rattle.switch.specs.declared.Verdict.the-variants.{Refused}
+use Rattle.switch.specs.Verdict.{told}
+use Rattle.switch.specs.Call.{State, afterOf, called}
+use Rattle.replay_log.specs.Answer.{recordCall}
+use Rattle.replay_log.specs.Records.{frameStart, longestRecord, nextIn}
+use Rattle.replay_log.specs.declared.log.Stamped.{Stamped}
+use Rattle.replay_log.specs.declared.log.Entry.{Entry}
+use Rattle.replay_log.specs.declared.log.Entry.the-variants.{Frame, More, Cut, End}
+
+-- ---- how much of a log is at hand never decides an answer
+-- what is told without more octets is told with them, whichever they are
+abbrev pub NextSettled : Type 0
+NextSettled = (s t : List ℕ) (at : ℕ) (whole : Bool) → (nextIn s at false ≡ More → ⊥) → nextIn (s ++ t) at whole ≡ nextIn s at false
+
+-- the octets before the place play no part
+abbrev pub moved : ℕ → Entry → Entry
+moved k (Frame r) = Frame (record { time = r .time; port = r .port; start = k + r .start; size = r .size; behind = k + r .behind })
+moved k More = More
+moved k Cut = Cut
+moved k End = End
+
+abbrev pub NextMoved : Type 0
+NextMoved = (t s : List ℕ) (at : ℕ) (whole : Bool) → nextIn (t ++ s) (length t + at) whole ≡ moved (length t) (nextIn s at whole)
+
+-- as many octets as the longest record has are enough
+abbrev pub NeverMore : Type 0
+NeverMore = (s : List ℕ) (at : ℕ) → ((i : ℕ) → getD s i 0 < 256) → at + longestRecord ≤ length s → nextIn s at false ≡ More → ⊥
+
+-- a frame told lies at hand whole, and the place behind it is right behind it
+abbrev pub FrameInside : Type 0
+FrameInside =
+    (s : List ℕ) (at : ℕ) (whole : Bool) (r : Stamped) → nextIn s at whole ≡ Frame r
+    → (r .start ≡ at + frameStart) × (r .behind ≡ r .start + r .size) × (r .behind ≤ length s)
+
+-- a frame longer than any is answered 2, and nothing changes
+abbrev pub LongFrameSkipped : Type 0
+LongFrameSkipped =
+    (g : Config) (s : State) (log : List ℕ) (r : Stamped) → largestFrame < r .size
+    → called g s (recordCall log r) ≡ afterOf (told (Refused 2)) s

@@ -1,8 +1,0 @@
--- The table of numbers that pass. Assumes nothing.
-use mathlib.Core.Path.{refl}
-use Rattle.sequence.specs.Sequence.{next, passes}
-use Rattle.sequence.specs.Claims.{PassTable}
-
-pub pass-table : PassTable
-unfolding passes next
-pass-table = refl
