@@ -17,9 +17,9 @@
  *
  * The receiving end. A link's row is 6 octets: number (2), SkewMax in microseconds (4). Row i has record i: the
  * ASHTHULGO_RECORD_WORDS words from word ASHTHULGO_RECORD_WORDS * i of the records on. All start as zeros, which is an empty
- * record. Its word 0 is the link's last stamp; words 1 and 2 are the last number on network A and on B with 1 added, 0 for
+ * record. Its word 0 is the link's last time; words 1 and 2 are the last number on network A and on B with 1 added, 0 for
  * none; from word 3 on there are two words for each network, A first, and each number from 0 to 255: other than 0 where its
- * latest delivery awaits its copy, and that delivery's stamp. Rows in use are those of which row and record are lent whole.
+ * latest delivery awaits its copy, and that delivery's time. Rows in use are those of which row and record are lent whole.
  */
 #ifndef ASHTHULGO_H
 #define ASHTHULGO_H
@@ -57,7 +57,7 @@ enum {
     ASHTHULGO_IMAGE_ROOM = 26    /* a lent run or room too short */
 };
 
-/* Answers of the receiving end, besides ASHTHULGO_UNKNOWN_LINK and ASHTHULGO_LATE (a stamp before the link's last). */
+/* Answers of the receiving end, besides ASHTHULGO_UNKNOWN_LINK and ASHTHULGO_LATE (a time before the link's last). */
 enum {
     ASHTHULGO_DELIVERED = 0,
     ASHTHULGO_COPY = 30,           /* of a frame that was delivered on the other network */
@@ -94,10 +94,10 @@ void ashthulgo_top_up(uint16_t smax, uint8_t k, uint16_t jitter, uint8_t mode, u
 
 /*
  * The policing step for a frame of so many octets: answers 0, 1, 2, 8, 9 or 10. credit, last: the account's, read, and
- * changed in place by 0 and 9. told: the credit that 0, 8 and 9 carry; 0 with any other code.
+ * changed in place by 0 and 9. reported: the credit that 0, 8 and 9 carry; 0 with any other code.
  */
 uint8_t ashthulgo_police(uint16_t smax, uint8_t k, uint16_t jitter, uint8_t mode, uint32_t *credit, uint64_t *last,
-                         size_t octets, uint64_t time, uint32_t *told);
+                         size_t octets, uint64_t time, uint32_t *reported);
 
 /*
  * The frame call: answers 0 to 10. constant, account_count, link_count: as loading answered them. Where fewer rows, credits
@@ -137,10 +137,10 @@ uint8_t ashthulgo_write(uint32_t constant, const uint8_t *accounts, size_t accou
 
 /*
  * The receiving end's call, for a frame that came in on a link and a network (0 is A, any other number is B) with a sequence
- * number and a stamp in microseconds: answers 0, 4, 8, 30 or 31. The first row in use with the link's number counts. Only
+ * number and a time in microseconds: answers 0, 4, 8, 30 or 31. The first row in use with the link's number counts. Only
  * that row's record changes; 4 and 8 change nothing. Rows and records beyond those in use are neither read nor written.
  */
-uint8_t ashthulgo_receive(uint16_t link, uint8_t network, uint8_t number, uint64_t stamp, const uint8_t *rows, size_t row_octets,
+uint8_t ashthulgo_receive(uint16_t link, uint8_t network, uint8_t number, uint64_t time, const uint8_t *rows, size_t row_octets,
                           uint64_t *records, size_t record_words);
 
 #ifdef __cplusplus

@@ -12,37 +12,37 @@ use Rattle.frame.specs.Frame.{lengthCode}
 use Rattle.frame.proofs.Frame.{within, by-length}
 use Rattle.terms.specs.Terms.{capacity, cost}
 use Rattle.terms.proofs.Limits.{limits, cost-low, cost-capacity}
-use Rattle.account.specs.Account.{termsOf, holding, valid, creditAt, costOf, toppedUp, debited}
-use Rattle.account.specs.Step.{Told, told, Stepped, stepped, policed}
-use Rattle.account.specs.Claims.{ValidLimits, ToldApart, StepAnswers, RefusedStepKeeps, ShortStepTopsUp}
-use Rattle.account.specs.Claims.{ForwardedStepTakesCost, StepIsTopUpAndDebit, FullTopUp, StepBelowCapacity, Tells, RefusedStepTells, Rest, RefusedMethodsRest}
+use Rattle.account.specs.Account.{termsOf, holding, accountSound, creditAt, costOf, toppedUp, debited}
+use Rattle.account.specs.Step.{StepReport, stepReported, Stepped, stepped, policed}
+use Rattle.account.specs.Claims.{SoundLimits, StepsApart, StepAnswers, RefusedStepKeeps, ShortStepTopsUp}
+use Rattle.account.specs.Claims.{ForwardedStepTakesCost, StepIsTopUpAndDebit, FullTopUp, StepBelowCapacity, Reports, RefusedStepReports, Idle, RefusedMethodsIdle}
 use Rattle.account.specs.declared.Account.{Account}
 use Rattle.account.specs.declared.Outcome.{Outcome}
 use Rattle.account.specs.declared.Outcome.the-variants.{Forwarded, Short, Late, Refused}
-use Rattle.account.proofs.Methods.{valid-limits, valid-credit, valid-by, capacity-not, credit-at-high, credit-at-full, top-up-invalid, top-up-late, top-up-valid}
-use Rattle.account.proofs.Methods.{cost-refused, cost-invalid, cost-valid, debit-enough, debit-short}
+use Rattle.account.proofs.Methods.{sound-limits, sound-credit, sound-by, capacity-not, credit-at-high, credit-at-full, top-up-unsound, top-up-late, top-up-sound}
+use Rattle.account.proofs.Methods.{cost-refused, cost-unsound, cost-sound, debit-enough, debit-short}
 use Rattle.account.proofs.Step.{by-step}
 
-pub valid-within : ValidLimits
-valid-within a = (λ v. (valid-limits a v, valid-credit a v), λ h. valid-by a (h .0) (h .1))
+pub sound-within : SoundLimits
+sound-within a = (λ v. (sound-limits a v, sound-credit a v), λ h. sound-by a (h .0) (h .1))
 
--- an answer, from what it tells
-heard : Told → Outcome
+-- an answer, from what it reports
+heard : StepReport → Outcome
 heard w = from (w .code) (w .credit)
   where
     from : ℕ → Option ℕ → Outcome
     from n none = Refused n
     from n (some c) = cond (eqb n 0) (Forwarded c) (cond (eqb n 9) (Short c) (Late c))
 
-heard-told : (o : Outcome) → heard (told o) ≡ o
+heard-reported : (o : Outcome) → heard (stepReported o) ≡ o
 unfolding heard
-heard-told (Forwarded c) = refl
-heard-told (Short c) = refl
-heard-told (Late c) = refl
-heard-told (Refused n) = refl
+heard-reported (Forwarded c) = refl
+heard-reported (Short c) = refl
+heard-reported (Late c) = refl
+heard-reported (Refused n) = refl
 
-pub told-apart : ToldApart
-told-apart o q e = sym (heard-told o) ∙ ap heard e ∙ heard-told q
+pub steps-apart : StepsApart
+steps-apart o q e = sym (heard-reported o) ∙ ap heard e ∙ heard-reported q
 
 -- a code that refuses a length is 1 or 2
 length-refuses : (n : ℕ) → (lengthCode n ≡ 0 → ⊥) → (P : ℕ → Type 0) → P 1 → P 2 → P (lengthCode n)
@@ -94,21 +94,21 @@ forwarded-step-takes-cost a n t =
     (λ _ _ _ l _. (refl, refl, l))
 
 -- ---- a step that reaches the account is a top-up and then a debit
-module _ (a : Account) (n t : ℕ) (z : lengthCode n ≡ 0) (v : valid a ≡ true) (h : a .last ≤ t) where
+module _ (a : Account) (n t : ℕ) (z : lengthCode n ≡ 0) (v : accountSound a ≡ true) (h : a .last ≤ t) where
   abbrev topped : Account
   topped = holding a (creditAt a t) t
 
   topped-up : debited topped n ≡ debited (toppedUp a t) n
-  topped-up = ap (λ (b : Account). debited b n) (top-up-valid a t v h _ refl _ refl)
+  topped-up = ap (λ (b : Account). debited b n) (top-up-sound a t v h _ refl _ refl)
 
   cost-is : cost (termsOf a) n ≡ costOf topped n
-  cost-is = cost-valid topped n z (valid-by topped (valid-limits a v) (credit-at-high a t))
+  cost-is = cost-sound topped n z (sound-by topped (sound-limits a v) (credit-at-high a t))
 
 -- by cases where the step answers 0 or 9; its other answers fall away
 by-reached : (a : Account) (n t : ℕ) (P : Stepped → Type 0)
-    → (lengthCode n ≡ 0 → valid a ≡ true → a .last ≤ t → creditAt a t < cost (termsOf a) n
+    → (lengthCode n ≡ 0 → accountSound a ≡ true → a .last ≤ t → creditAt a t < cost (termsOf a) n
     → P (stepped (Short (creditAt a t)) (holding a (creditAt a t) t)))
-    → (lengthCode n ≡ 0 → valid a ≡ true → a .last ≤ t → cost (termsOf a) n ≤ creditAt a t
+    → (lengthCode n ≡ 0 → accountSound a ≡ true → a .last ≤ t → cost (termsOf a) n ≤ creditAt a t
     → P (stepped (Forwarded (creditAt a t - cost (termsOf a) n)) (holding a (creditAt a t - cost (termsOf a) n) t)))
     → (policed a n t .says .code ≡ 0) ⊎ (policed a n t .says .code ≡ 9) → P (policed a n t)
 by-reached a n t P i j =
@@ -128,24 +128,24 @@ step-is-top-up-and-debit a n t =
     (λ z v h l. debit-enough (topped a n t z v h) n _ (cost-is a n t z v h) l _ refl ∙ topped-up a n t z v h)
 
 pub full-top-up : FullTopUp
-full-top-up a t v e h = sym (top-up-valid a t v h _ refl _ (ap (λ (x : ℕ). holding a x t) (credit-at-full a t e)))
+full-top-up a t v e h = sym (top-up-sound a t v h _ refl _ (ap (λ (x : ℕ). holding a x t) (credit-at-full a t e)))
 
 pub step-below-capacity : StepBelowCapacity
 step-below-capacity a n t s =
     by-reached a n t (λ q. q .account .credit < capacity (termsOf a))
-    (λ _ v _ l. omega (arith, cost-capacity (termsOf a) (limits (termsOf a) (valid-limits a v)) n s))
+    (λ _ v _ l. omega (arith, cost-capacity (termsOf a) (limits (termsOf a) (sound-limits a v)) n s))
     (λ z v _ l.
     let w = within n z .0 in
-    let b = cost-low (termsOf a) (limits (termsOf a) (valid-limits a v)) n (omega arith) in
+    let b = cost-low (termsOf a) (limits (termsOf a) (sound-limits a v)) n (omega arith) in
     omega (arith, credit-at-high a t))
 
 -- a code that is none of 1, 2 and 10
 none-of : (x : ℕ) {P : Type 0} → (x ≡ 1 → ⊥) → (x ≡ 2 → ⊥) → (x ≡ 10 → ⊥) → (x ≡ 1) ⊎ ((x ≡ 2) ⊎ (x ≡ 10)) → P
 none-of x f g h e = absurd (⊎-elim f (⊎-elim g h) e)
 
-pub refused-step-tells : RefusedStepTells
-refused-step-tells a n t =
-    by-step a n t (λ q. Tells a t (q .says))
+pub refused-step-reports : RefusedStepReports
+refused-step-reports a n t =
+    by-step a n t (λ q. Reports a t (q .says))
     (λ m. (λ e. absurd (length-refuses n m (λ x. x ≡ 8 → ⊥) (λ f. omega arith) (λ f. omega arith) e), λ _. refl))
     (λ _ _. (λ e. absurd (omega arith), λ _. refl))
     (λ _ _ l. (λ _. (refl, l), none-of 8 (λ e. omega arith) (λ e. omega arith) (λ e. omega arith)))
@@ -153,18 +153,18 @@ refused-step-tells a n t =
     (λ _ _ _ _. (λ e. absurd (omega arith), none-of 0 (λ e. omega arith) (λ e. omega arith) (λ e. omega arith)))
 
 -- where the step refuses, the methods rest
-pub refused-methods-rest : RefusedMethodsRest
-refused-methods-rest a n t =
-    by-step a n t (λ q. Rest a n t (q .says .code))
-    (λ m. length-refuses n m (Rest a n t) (by-octets 1 m (λ e. omega arith) (λ e. omega arith)) (by-octets 2 m (λ e. omega arith) (λ e. omega arith)))
+pub refused-methods-idle : RefusedMethodsIdle
+refused-methods-idle a n t =
+    by-step a n t (λ q. Idle a n t (q .says .code))
+    (λ m. length-refuses n m (Idle a n t) (by-octets 1 m (λ e. omega arith) (λ e. omega arith)) (by-octets 2 m (λ e. omega arith) (λ e. omega arith)))
     (λ z v. (
-      λ _. sym (cost-invalid a n v),
-      λ _. (sym (capacity-not a v), sym (cost-invalid a n v), sym (top-up-invalid a t v)),
+      λ _. sym (cost-unsound a n v),
+      λ _. (sym (capacity-not a v), sym (cost-unsound a n v), sym (top-up-unsound a t v)),
       λ e. absurd (omega arith),
     ))
     (λ _ v l. (neither 8 1 2 (λ e. omega arith) (λ e. omega arith), λ e. absurd (omega arith), λ _. sym (top-up-late a t v l)))
     (λ _ _ _ _. (neither 9 1 2 (λ e. omega arith) (λ e. omega arith), λ e. absurd (omega arith), λ e. absurd (omega arith)))
     (λ _ _ _ _. (neither 0 1 2 (λ e. omega arith) (λ e. omega arith), λ e. absurd (omega arith), λ e. absurd (omega arith)))
   where
-    by-octets : (x : ℕ) → (lengthCode n ≡ 0 → ⊥) → (x ≡ 10 → ⊥) → (x ≡ 8 → ⊥) → Rest a n t x
+    by-octets : (x : ℕ) → (lengthCode n ≡ 0 → ⊥) → (x ≡ 10 → ⊥) → (x ≡ 8 → ⊥) → Idle a n t x
     by-octets x m f g = (λ _. sym (cost-refused a n _ refl m), λ e. absurd (f e), λ e. absurd (g e))

@@ -9,39 +9,39 @@ use borrow.Author.Tests.{leb-true, le-leb, lt-leb, eq-eqb, ne-eqb}
 use Rattle.lists.specs.Choice.{if_then_else_}
 use Rattle.lists.proofs.Tests.{split, both}
 use Rattle.frame.specs.Frame.{lengthCode}
-use Rattle.terms.specs.Terms.{inLimits, rate, capacity, cost, checkedCapacity, checkedCost}
+use Rattle.terms.specs.Terms.{termsGood, rate, capacity, cost, checkedCapacity, checkedCost}
 use Rattle.terms.proofs.Limits.{limits, capacity-low}
-use Rattle.account.specs.Account.{termsOf, holding, valid, creditAt, creditUpTo, capacityOf, costOf, toppedUp, debited}
+use Rattle.account.specs.Account.{termsOf, holding, accountSound, creditAt, creditUpTo, capacityOf, costOf, toppedUp, debited}
 use Rattle.account.specs.declared.Account.{Account}
 
 module _ (a : Account) where
-  -- ---- a valid account
-  pub valid-limits : valid a ≡ true → inLimits (termsOf a) ≡ true
-  unfolding valid
-  valid-limits e = both (inLimits (termsOf a)) (leb (a .credit) (capacity (termsOf a))) e .0
+  -- ---- a sound account
+  pub sound-limits : accountSound a ≡ true → termsGood (termsOf a) ≡ true
+  unfolding accountSound
+  sound-limits e = both (termsGood (termsOf a)) (leb (a .credit) (capacity (termsOf a))) e .0
 
-  pub valid-credit : valid a ≡ true → a .credit ≤ capacity (termsOf a)
-  unfolding valid
-  valid-credit e = leb-true _ _ (both (inLimits (termsOf a)) (leb (a .credit) (capacity (termsOf a))) e .1)
+  pub sound-credit : accountSound a ≡ true → a .credit ≤ capacity (termsOf a)
+  unfolding accountSound
+  sound-credit e = leb-true _ _ (both (termsGood (termsOf a)) (leb (a .credit) (capacity (termsOf a))) e .1)
 
-  pub valid-by : inLimits (termsOf a) ≡ true → a .credit ≤ capacity (termsOf a) → valid a ≡ true
-  unfolding valid
-  valid-by e h = ap₂ _&&_ e (le-leb _ _ h)
+  pub sound-by : termsGood (termsOf a) ≡ true → a .credit ≤ capacity (termsOf a) → accountSound a ≡ true
+  unfolding accountSound
+  sound-by e h = ap₂ _&&_ e (le-leb _ _ h)
 
   -- ---- capacity: by the limits and the credit
-  pub capacity-not : valid a ≡ false → 0 ≡ capacityOf a
+  pub capacity-not : accountSound a ≡ false → 0 ≡ capacityOf a
   unfolding capacityOf
   capacity-not v = simp v
 
-  capacity-is : valid a ≡ true → capacity (termsOf a) ≡ capacityOf a
+  capacity-is : accountSound a ≡ true → capacity (termsOf a) ≡ capacityOf a
   unfolding capacityOf
   capacity-is v = simp v
 
   -- by the capacity of the values, 0 where these break a limit
   capacity-by : (if leb (a .credit) (checkedCapacity (termsOf a)) then checkedCapacity (termsOf a) else 0) ≡ capacityOf a
-  unfolding valid capacityOf checkedCapacity
+  unfolding accountSound capacityOf checkedCapacity
   capacity-by =
-      split (inLimits (termsOf a))
+      split (termsGood (termsOf a))
       (λ e. simp e)
       (λ e. split (leb (a .credit) 0) (λ l. simp (e, l)) (λ l. simp (e, l)))
 
@@ -54,23 +54,23 @@ module _ (a : Account) where
 
   -- ---- what the capacity's answer says
   module _ (c : ℕ) (e : c ≡ capacityOf a) where
-    pub none-invalid : c ≡ 0 → valid a ≡ false
-    none-invalid z =
-        split (valid a)
+    pub none-unsound : c ≡ 0 → accountSound a ≡ false
+    none-unsound z =
+        split (accountSound a)
         (λ v.
-        let l = capacity-low (termsOf a) (limits (termsOf a) (valid-limits v)) in
+        let l = capacity-low (termsOf a) (limits (termsOf a) (sound-limits v)) in
         let k = capacity-is v in
         absurd (omega arith))
         (λ v. v)
 
-    pub some-valid : (c ≡ 0 → ⊥) → valid a ≡ true
-    some-valid h =
-        split (valid a)
+    pub some-sound : (c ≡ 0 → ⊥) → accountSound a ≡ true
+    some-sound h =
+        split (accountSound a)
         (λ v. v)
         (λ v. absurd (h (e ∙ sym (capacity-not v))))
 
     pub some-capacity : (c ≡ 0 → ⊥) → c ≡ capacity (termsOf a)
-    some-capacity h = e ∙ sym (capacity-is (some-valid h))
+    some-capacity h = e ∙ sym (capacity-is (some-sound h))
 
   -- ---- the topped-up credit, of a capacity and a rate
   pub credit-at : (t c r w : ℕ) → r ≡ rate (termsOf a) → w ≡ min c (a .credit + r * (t - a .last)) → w ≡ creditUpTo a c t
@@ -99,17 +99,17 @@ module _ (a : Account) where
       pub brought-refilled : (w : ℕ) → w ≡ creditUpTo a c t → b ≡ holding a w t → b ≡ holding a (creditUpTo a c t) t
       brought-refilled w e f = f ∙ ap (λ (x : ℕ). holding a x t) e
 
-    pub top-up-invalid : valid a ≡ false → a ≡ toppedUp a t
+    pub top-up-unsound : accountSound a ≡ false → a ≡ toppedUp a t
     unfolding toppedUp
-    top-up-invalid v = simp v
+    top-up-unsound v = simp v
 
-    pub top-up-late : valid a ≡ true → t < a .last → a ≡ toppedUp a t
+    pub top-up-late : accountSound a ≡ true → t < a .last → a ≡ toppedUp a t
     unfolding toppedUp
     top-up-late v h = simp (v, lt-leb _ _ h)
 
-    pub top-up-valid : valid a ≡ true → a .last ≤ t → (c : ℕ) → c ≡ capacity (termsOf a) → (b : Account) → b ≡ holding a (creditUpTo a c t) t → b ≡ toppedUp a t
+    pub top-up-sound : accountSound a ≡ true → a .last ≤ t → (c : ℕ) → c ≡ capacity (termsOf a) → (b : Account) → b ≡ holding a (creditUpTo a c t) t → b ≡ toppedUp a t
     unfolding toppedUp
-    top-up-valid v h c q b e = e ∙ ap (λ (x : ℕ). holding a (creditUpTo a x t) t) q ∙ simp (v, le-leb _ _ h)
+    top-up-sound v h c q b e = e ∙ ap (λ (x : ℕ). holding a (creditUpTo a x t) t) q ∙ simp (v, le-leb _ _ h)
 
   -- ---- cost and debit, by the code r of the length
   module _ (n : ℕ) where
@@ -117,17 +117,17 @@ module _ (a : Account) where
     unfolding costOf
     cost-refused r e h = simp (ne-eqb (lengthCode n) 0 (rw e at h))
 
-    pub cost-invalid : valid a ≡ false → 0 ≡ costOf a n
+    pub cost-unsound : accountSound a ≡ false → 0 ≡ costOf a n
     unfolding costOf
-    cost-invalid v = split (eqb (lengthCode n) 0) (λ z. simp (z, v)) (λ z. simp z)
+    cost-unsound v = split (eqb (lengthCode n) 0) (λ z. simp (z, v)) (λ z. simp z)
 
-    pub cost-valid : lengthCode n ≡ 0 → valid a ≡ true → cost (termsOf a) n ≡ costOf a n
+    pub cost-sound : lengthCode n ≡ 0 → accountSound a ≡ true → cost (termsOf a) n ≡ costOf a n
     unfolding costOf
-    cost-valid z v = simp (eq-eqb _ _ z, v)
+    cost-sound z v = simp (eq-eqb _ _ z, v)
 
-    pub cost-checked : valid a ≡ true → checkedCost (termsOf a) n ≡ costOf a n
+    pub cost-checked : accountSound a ≡ true → checkedCost (termsOf a) n ≡ costOf a n
     unfolding checkedCost costOf
-    cost-checked v = split (eqb (lengthCode n) 0) (λ z. simp (z, v, valid-limits v)) (λ z. simp (z, valid-limits v))
+    cost-checked v = split (eqb (lengthCode n) 0) (λ z. simp (z, v, sound-limits v)) (λ z. simp (z, sound-limits v))
 
     module _ (x : ℕ) (e : x ≡ costOf a n) where
       pub debit-short : a .credit < x → a ≡ debited a n

@@ -8,10 +8,10 @@ use Rattle.lists.proofs.Tests.{split}
 use Rattle.frame.specs.Frame.{lengthCode}
 use Rattle.terms.specs.Terms.{capacity, cost, checkedCost}
 use Rattle.terms.proofs.Methods.{cost-kept}
-use Rattle.account.specs.Account.{termsOf, holding, valid, creditUpTo, creditAt}
+use Rattle.account.specs.Account.{termsOf, holding, accountSound, creditUpTo, creditAt}
 use Rattle.account.specs.Step.{Stepped, stepped, judged, judgedAt, policed}
 use Rattle.account.specs.declared.Account.{Account}
-use Rattle.account.proofs.Methods.{valid-limits}
+use Rattle.account.proofs.Methods.{sound-limits}
 use Rattle.account.specs.declared.Outcome.the-variants.{Forwarded, Short, Late, Refused}
 
 module _ (a : Account) (n t : ℕ) where
@@ -21,16 +21,16 @@ module _ (a : Account) (n t : ℕ) where
   police-length r e h = simp (e, ne-eqb (lengthCode n) 0 (rw e at h))
 
   module _ (z : lengthCode n ≡ 0) where
-    pub police-invalid : valid a ≡ false → stepped (Refused 10) a ≡ policed a n t
+    pub police-unsound : accountSound a ≡ false → stepped (Refused 10) a ≡ policed a n t
     unfolding policed
-    police-invalid v = simp (eq-eqb _ _ z, v)
+    police-unsound v = simp (eq-eqb _ _ z, v)
 
-    module _ (v : valid a ≡ true) where
+    module _ (v : accountSound a ≡ true) where
       -- the capacity c and the cost x in hand
       pub police-judged : (c x : ℕ) → c ≡ capacity (termsOf a) → x ≡ checkedCost (termsOf a) n → judgedAt a c x t ≡ policed a n t
       unfolding policed
       police-judged c x p q =
-          ap₂ (λ (f y : ℕ). judgedAt a f y t) p (q ∙ sym (cost-kept (termsOf a) (valid-limits a v) n z)) ∙ simp (eq-eqb _ _ z, v)
+          ap₂ (λ (f y : ℕ). judgedAt a f y t) p (q ∙ sym (cost-kept (termsOf a) (sound-limits a v) n z)) ∙ simp (eq-eqb _ _ z, v)
 
 -- ---- a frame that costs x, of an account of capacity c
 module _ (a : Account) (c x t : ℕ) where
@@ -52,28 +52,28 @@ module _ (a : Account) (n t : ℕ) where
   -- by cases: what holds of each answer, and of the step where it is that answer
   pub by-step : (P : Stepped → Type 0)
       → ((lengthCode n ≡ 0 → ⊥) → P (stepped (Refused (lengthCode n)) a))
-      → (lengthCode n ≡ 0 → valid a ≡ false → P (stepped (Refused 10) a))
-      → (lengthCode n ≡ 0 → valid a ≡ true → t < a .last → P (stepped (Late (a .credit)) a))
-      → (lengthCode n ≡ 0 → valid a ≡ true → a .last ≤ t → creditAt a t < cost (termsOf a) n
+      → (lengthCode n ≡ 0 → accountSound a ≡ false → P (stepped (Refused 10) a))
+      → (lengthCode n ≡ 0 → accountSound a ≡ true → t < a .last → P (stepped (Late (a .credit)) a))
+      → (lengthCode n ≡ 0 → accountSound a ≡ true → a .last ≤ t → creditAt a t < cost (termsOf a) n
       → P (stepped (Short (creditAt a t)) (holding a (creditAt a t) t)))
-      → (lengthCode n ≡ 0 → valid a ≡ true → a .last ≤ t → cost (termsOf a) n ≤ creditAt a t
+      → (lengthCode n ≡ 0 → accountSound a ≡ true → a .last ≤ t → cost (termsOf a) n ≤ creditAt a t
       → P (stepped (Forwarded (creditAt a t - cost (termsOf a) n)) (holding a (creditAt a t - cost (termsOf a) n) t)))
       → P (policed a n t)
   by-step P f g h i j =
       split (eqb (lengthCode n) 0)
       (λ e. let z = eqb-true _ _ e in
-      split (valid a)
+      split (accountSound a)
       (λ v.
       let full : ℕ = capacity (termsOf a) in
       let x : ℕ = cost (termsOf a) n in
-      let s : judgedAt a full x t ≡ policed a n t = police-judged a n t z v full x refl (cost-kept _ (valid-limits a v) n z) in
+      let s : judgedAt a full x t ≡ policed a n t = police-judged a n t z v full x refl (cost-kept _ (sound-limits a v) n z) in
       split (ltb t (a .last))
       (λ l. rw (← s, ← judged-late a full x t (ltb-true _ _ l)) (h z v (ltb-true _ _ l)))
       (λ l. let k = ltb-false _ _ l in
       split (leb x (creditAt a t))
       (λ m. rw (← s, ← judged-forwarded a full x t k _ refl (leb-true _ _ m)) (j z v k (leb-true _ _ m)))
       (λ m. rw (← s, ← judged-short a full x t k _ refl (leb-false _ _ m)) (i z v k (leb-false _ _ m)))))
-      (λ v. rw (← police-invalid a n t z v) (g z v)))
+      (λ v. rw (← police-unsound a n t z v) (g z v)))
       (λ e. let m = eqb-false _ _ e in rw (← police-length a n t (lengthCode n) refl m) (f m))
 
   -- a step changes the credit and the last time alone

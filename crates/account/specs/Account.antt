@@ -4,7 +4,7 @@ use mathlib.Core.Bool.{Bool, _&&_}
 use lib.Dec.{leb, eqb}
 use Rattle.lists.specs.Choice.{if_then_else_}
 use Rattle.frame.specs.Frame.{lengthCode}
-use Rattle.terms.specs.Terms.{inLimits, rate, capacity, cost}
+use Rattle.terms.specs.Terms.{termsGood, rate, capacity, cost}
 use Rattle.terms.specs.declared.Terms.{Terms}
 use Rattle.account.specs.declared.Account.{Account}
 
@@ -24,8 +24,8 @@ abbrev pub loaded : Terms → Account
 loaded p = accountOf p (capacity p) 0
 
 -- code 10 doesn't fit the account ("Codes, in order of checking"): values within limits, credit at most the capacity
-unfoldable pub valid : Account → Bool
-valid a = inLimits (termsOf a) && leb (a .credit) (capacity (termsOf a))
+unfoldable pub accountSound : Account → Bool
+accountSound a = termsGood (termsOf a) && leb (a .credit) (capacity (termsOf a))
 
 -- the credit topped up to time t: what the elapsed time adds to it, never above `full`
 unfoldable pub creditUpTo : Account → ℕ → ℕ → ℕ
@@ -38,13 +38,13 @@ creditAt a t = creditUpTo a (capacity (termsOf a)) t
 -- ---- the methods: each gives 0, or changes nothing, where the policing step refuses what that method is given
 
 unfoldable pub capacityOf : Account → ℕ
-capacityOf a = if valid a then capacity (termsOf a) else 0
+capacityOf a = if accountSound a then capacity (termsOf a) else 0
 
 unfoldable pub costOf : Account → ℕ → ℕ
-costOf a n = if eqb (lengthCode n) 0 && valid a then cost (termsOf a) n else 0
+costOf a n = if eqb (lengthCode n) 0 && accountSound a then cost (termsOf a) n else 0
 
 unfoldable pub toppedUp : Account → ℕ → Account
-toppedUp a t = if valid a && leb (a .last) t then holding a (creditAt a t) t else a
+toppedUp a t = if accountSound a && leb (a .last) t then holding a (creditAt a t) t else a
 
 -- a debit takes the cost; a short credit stays, as the step keeps it for a dropped frame. Document 01 doesn't speak of this
 -- method alone

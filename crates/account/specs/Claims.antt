@@ -6,19 +6,19 @@ use mathlib.Core.Logic.{_⊎_, _↔_}
 use mathlib.Core.Option.{none, some}
 use mathlib.Core.Path.{_≡_}
 use mathlib.Core.List.{[], _∷_, List·Memᴰ}
-use Rattle.terms.specs.Terms.{inLimits, capacity, cost}
-use Rattle.account.specs.Account.{termsOf, holding, valid, creditAt, capacityOf, costOf, toppedUp, debited}
-use Rattle.account.specs.Step.{Told, told, policed}
+use Rattle.terms.specs.Terms.{termsGood, capacity, cost}
+use Rattle.account.specs.Account.{termsOf, holding, accountSound, creditAt, capacityOf, costOf, toppedUp, debited}
+use Rattle.account.specs.Step.{StepReport, stepReported, policed}
 use Rattle.account.specs.declared.Account.{Account}
 use Rattle.account.specs.declared.Outcome.{Outcome}
 
--- a valid account has values within limits and holds at most its capacity
-abbrev pub ValidLimits : Type 0
-ValidLimits = (a : Account) → (valid a ≡ true) ↔ ((inLimits (termsOf a) ≡ true) × (a .credit ≤ capacity (termsOf a)))
+-- a sound account has values within limits and holds at most its capacity
+abbrev pub SoundLimits : Type 0
+SoundLimits = (a : Account) → (accountSound a ≡ true) ↔ ((termsGood (termsOf a) ≡ true) × (a .credit ≤ capacity (termsOf a)))
 
--- two answers that tell the same are the same
-abbrev pub ToldApart : Type 0
-ToldApart = (o q : Outcome) → told o ≡ told q → o ≡ q
+-- two answers that report the same are the same
+abbrev pub StepsApart : Type 0
+StepsApart = (o q : Outcome) → stepReported o ≡ stepReported q → o ≡ q
 
 -- demand 1: the codes that a step can answer
 abbrev pub StepAnswers : Type 0
@@ -30,7 +30,7 @@ RefusedStepKeeps =
     (a : Account) (n t : ℕ) → (policed a n t .says .code ≡ 0 → ⊥) → (policed a n t .says .code ≡ 9 → ⊥)
     → policed a n t .account ≡ a
 
--- 9 brings the account to the frame's time, topped up, and tells the credit held
+-- 9 brings the account to the frame's time, topped up, and reports the credit held
 abbrev pub ShortStepTopsUp : Type 0
 ShortStepTopsUp =
     (a : Account) (n t : ℕ) → policed a n t .says .code ≡ 9
@@ -38,7 +38,7 @@ ShortStepTopsUp =
     × (policed a n t .says .credit ≡ some (creditAt a t))
     × (creditAt a t < cost (termsOf a) n)
 
--- 0 brings the account to the frame's time, topped up and less the cost, and tells the credit left
+-- 0 brings the account to the frame's time, topped up and less the cost, and reports the credit left
 abbrev pub ForwardedStepTakesCost : Type 0
 ForwardedStepTakesCost =
     (a : Account) (n t : ℕ) → policed a n t .says .code ≡ 0
@@ -52,10 +52,10 @@ StepIsTopUpAndDebit =
     (a : Account) (n t : ℕ) → (policed a n t .says .code ≡ 0) ⊎ (policed a n t .says .code ≡ 9)
     → policed a n t .account ≡ debited (toppedUp a t) n
 
--- a top-up of a valid account at capacity, at a time not before its last, stores the time alone (document 02, Q-2)
+-- a top-up of a sound account at capacity, at a time not before its last, stores the time alone (document 02, Q-2)
 abbrev pub FullTopUp : Type 0
 FullTopUp =
-    (a : Account) (t : ℕ) → valid a ≡ true → a .credit ≡ capacity (termsOf a) → a .last ≤ t
+    (a : Account) (t : ℕ) → accountSound a ≡ true → a .credit ≡ capacity (termsOf a) → a .last ≤ t
     → toppedUp a t ≡ holding a (a .credit) t
 
 -- a step of at most Smax octets, as every frame call's is, leaves less than the capacity where it answers 0 or 9
@@ -64,21 +64,21 @@ StepBelowCapacity =
     (a : Account) (n t : ℕ) → n ≤ termsOf a .smax → (policed a n t .says .code ≡ 0) ⊎ (policed a n t .says .code ≡ 9)
     → policed a n t .account .credit < capacity (termsOf a)
 
--- 8 tells the credit held, of a time before the last; 1, 2 and 10 tell no credit
-abbrev pub Tells : Account → ℕ → Told → Type 0
-Tells a t w =
+-- 8 reports the credit held, of a time before the last; 1, 2 and 10 report no credit
+abbrev pub Reports : Account → ℕ → StepReport → Type 0
+Reports a t w =
     (w .code ≡ 8 → (w .credit ≡ some (a .credit)) × (t < a .last))
     × ((w .code ≡ 1) ⊎ ((w .code ≡ 2) ⊎ (w .code ≡ 10)) → w .credit ≡ none)
 
-abbrev pub RefusedStepTells : Type 0
-RefusedStepTells = (a : Account) (n t : ℕ) → Tells a t (policed a n t .says)
+abbrev pub RefusedStepReports : Type 0
+RefusedStepReports = (a : Account) (n t : ℕ) → Reports a t (policed a n t .says)
 
 -- a method gives 0, or changes nothing, where the step refuses what that method is given
-abbrev pub Rest : Account → ℕ → ℕ → ℕ → Type 0
-Rest a n t code =
+abbrev pub Idle : Account → ℕ → ℕ → ℕ → Type 0
+Idle a n t code =
     ((code ≡ 1) ⊎ (code ≡ 2) → costOf a n ≡ 0)
     × (code ≡ 10 → (capacityOf a ≡ 0) × (costOf a n ≡ 0) × (toppedUp a t ≡ a))
     × (code ≡ 8 → toppedUp a t ≡ a)
 
-abbrev pub RefusedMethodsRest : Type 0
-RefusedMethodsRest = (a : Account) (n t : ℕ) → Rest a n t (policed a n t .says .code)
+abbrev pub RefusedMethodsIdle : Type 0
+RefusedMethodsIdle = (a : Account) (n t : ℕ) → Idle a n t (policed a n t .says .code)

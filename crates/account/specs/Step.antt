@@ -6,30 +6,30 @@ use lib.Dec.{ltb, leb, eqb}
 use Rattle.lists.specs.Choice.{if_then_else_}
 use Rattle.frame.specs.Frame.{lengthCode}
 use Rattle.terms.specs.Terms.{capacity, cost}
-use Rattle.account.specs.Account.{termsOf, holding, valid, creditUpTo}
+use Rattle.account.specs.Account.{termsOf, holding, accountSound, creditUpTo}
 use Rattle.account.specs.declared.Account.{Account}
 use Rattle.account.specs.declared.Policed.{Policed}
 use Rattle.account.specs.declared.Outcome.{Outcome}
 use Rattle.account.specs.declared.Outcome.the-variants.{Forwarded, Short, Late, Refused}
 
--- what an answer tells: its number in the table of codes, and the credit that it carries, if any
-pub record Told : Type 0 where
+-- what an answer reports: its number in the table of codes, and the credit that it carries, if any
+pub record StepReport : Type 0 where
   pub code : ℕ
   pub credit : Option ℕ
 
-abbrev pub told : Outcome → Told
-told (Forwarded c) = record { code = 0; credit = some c }
-told (Short c) = record { code = 9; credit = some c }
-told (Late c) = record { code = 8; credit = some c }
-told (Refused n) = record { code = n; credit = none }
+abbrev pub stepReported : Outcome → StepReport
+stepReported (Forwarded c) = record { code = 0; credit = some c }
+stepReported (Short c) = record { code = 9; credit = some c }
+stepReported (Late c) = record { code = 8; credit = some c }
+stepReported (Refused n) = record { code = n; credit = none }
 
 -- what a step says, and the account that it leaves
 pub record Stepped : Type 0 where
-  pub says : Told
+  pub says : StepReport
   pub account : Account
 
 abbrev pub stepped : Outcome → Account → Stepped
-stepped o a = record { says = told o; account = a }
+stepped o a = record { says = stepReported o; account = a }
 
 -- the same, of what the code gives
 abbrev pub steppedOf : Policed → Stepped
@@ -51,5 +51,5 @@ judgedAt a full x t = if ltb t (a .last) then stepped (Late (a .credit)) a else 
 unfoldable pub policed : Account → ℕ → ℕ → Stepped
 policed a n t =
     if not (eqb (lengthCode n) 0) then stepped (Refused (lengthCode n)) a
-    else if not (valid a) then stepped (Refused 10) a
+    else if not (accountSound a) then stepped (Refused 10) a
     else judgedAt a (capacity (termsOf a)) (cost (termsOf a) n) t

@@ -9,12 +9,12 @@ use lib.Dec.{ltb, leb, eqb, lit≤}
 use Rattle.lists.proofs.Tests.{split, leb-same}
 use Rattle.lists.proofs.History.{Simulates, same-answers}
 use Rattle.frame.specs.Frame.{lengthCode}
-use Rattle.terms.specs.Terms.{termsWith, frameMode, lineFrameMode, inLimits, bag, added, charge, rate, byOctets, charged, cost}
+use Rattle.terms.specs.Terms.{termsWith, frameMode, lineFrameMode, termsGood, bag, added, charge, rate, byOctets, charged, cost}
 use Rattle.terms.specs.declared.Terms.{Terms}
 use Rattle.account.specs.Account.{loaded}
-use Rattle.terms.proofs.Limits.{Limits, limits, in-limits-by, rate-low}
+use Rattle.terms.proofs.Limits.{Limits, limits, are-good-by, rate-low}
 use Rattle.account_rule.specs.Bucket.{Reached, reached, lastTime, holdsFrom, ruleHolds}
-use Rattle.account_rule.specs.Rule.{Arrival, stepsTold, codes, allowance, Ruled, ruled, ruleArrived, ruleStep, ruleOfAccount, ruleCodes, FrameModesAlike}
+use Rattle.account_rule.specs.Rule.{StepCall, stepReports, stepCodes, allowance, Ruled, ruled, ruleArrived, ruleStep, ruleOfAccount, stepRuleCodes, FrameModesAlike}
 use Rattle.account_rule.proofs.Rule.{rule-of-steps}
 
 -- ---- every cost times f
@@ -83,7 +83,7 @@ module _ (p : Terms) (frames : byOctets (p .mode) ≡ false) (pos : 1 ≤ rate p
       (λ e. simp (e, arrived-grown z n t))
       (λ e. simp e)
 
-  each-grown : (steps : List Arrival)
+  each-grown : (steps : List StepCall)
       → Simulates (ruleOfAccount p) (ruleOfAccount unit) (λ c. c) (λ z y. y ≡ grown (rate p) pos z) steps
   unfolding grown-ruled
   each-grown steps =
@@ -94,18 +94,18 @@ module _ (p : Terms) (frames : byOctets (p .mode) ≡ false) (pos : 1 ≤ rate p
       }
 
   -- from loading on
-  codes-told : inLimits p ≡ true → (steps : List Arrival) → codes (stepsTold (loaded p) steps) ≡ ruleCodes unit [] steps
+  codes-reported : termsGood p ≡ true → (steps : List StepCall) → stepCodes (stepReports (loaded p) steps) ≡ stepRuleCodes unit [] steps
   unfolding grown
-  codes-told ok steps = rule-of-steps p ok steps ∙ same-answers steps (each-grown steps) [] [] refl
+  codes-reported ok steps = rule-of-steps p ok steps ∙ same-answers steps (each-grown steps) [] [] refl
 
 -- the other values kept, any mode that charges Smax
-module _ (s k j : ℕ) (ok : inLimits (termsWith s k j frameMode) ≡ true) where
-  codes-in : (m : ℕ) → byOctets m ≡ false → m ≤ lineFrameMode → (steps : List Arrival)
-      → codes (stepsTold (loaded (termsWith s k j m)) steps) ≡ ruleCodes (termsWith 1 k j frameMode) [] steps
+module _ (s k j : ℕ) (ok : termsGood (termsWith s k j frameMode) ≡ true) where
+  codes-in : (m : ℕ) → byOctets m ≡ false → m ≤ lineFrameMode → (steps : List StepCall)
+      → stepCodes (stepReports (loaded (termsWith s k j m)) steps) ≡ stepRuleCodes (termsWith 1 k j frameMode) [] steps
   codes-in m frames high steps =
       let l = limits (termsWith s k j frameMode) ok in
       let lm : Limits (termsWith s k j m) = record { smax-low = l .smax-low; smax-high = l .smax-high; k-high = l .k-high; jitter-high = l .jitter-high; mode-high = high } in
-      codes-told (termsWith s k j m) frames (rate-low (termsWith s k j m) lm) (in-limits-by (termsWith s k j m) lm) steps
+      codes-reported (termsWith s k j m) frames (rate-low (termsWith s k j m) lm) (are-good-by (termsWith s k j m) lm) steps
 
 pub frame-modes-alike : FrameModesAlike
 unfolding byOctets

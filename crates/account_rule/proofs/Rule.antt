@@ -12,18 +12,18 @@ use borrow.Author.Tests.{le-leb, lt-leb, lt-ltb, le-ltb, eq-eqb, ne-eqb, eqb-tru
 use Rattle.lists.proofs.Tests.{split}
 use Rattle.lists.proofs.History.{Simulates, simulated}
 use Rattle.frame.specs.Frame.{lengthCode}
-use Rattle.terms.specs.Terms.{inLimits, bag, rate, capacity, cost}
+use Rattle.terms.specs.Terms.{termsGood, bag, rate, capacity, cost}
 use Rattle.terms.specs.declared.Terms.{Terms}
-use Rattle.account.specs.Account.{accountOf, holding, loaded, valid, creditUpTo, creditAt}
+use Rattle.account.specs.Account.{accountOf, holding, loaded, accountSound, creditUpTo, creditAt}
 use Rattle.account.specs.Step.{Stepped, stepped, policed}
 use Rattle.account_rule.specs.Bucket.{Reached, reached, lastTime, ruleHolds, FromEach}
-use Rattle.account_rule.specs.Rule.{Arrival, steppingAccount, accountAfter, allowance, Ruled, ruled, ruleArrived, ruleStep, ruleOfAccount, rulePast, AllowanceByMode, RuleOfSteps, StepsInWords}
+use Rattle.account_rule.specs.Rule.{StepCall, steppingAccount, accountAfter, allowance, Ruled, ruled, ruleArrived, ruleStep, ruleOfAccount, stepRulePast, AllowanceByMode, RuleOfSteps, StepsInWords}
 use Rattle.account.specs.declared.Account.{Account}
 use Rattle.account.specs.declared.Outcome.the-variants.{Forwarded, Short}
 use Rattle.account_rule.proofs.Bucket.{gain, held, topped, held-high, rule-read}
 use Rattle.account_rule.proofs.Bucket.{Sound as SoundBucket, rule-is as bucket-rule}
 use Rattle.terms.proofs.Claims.{formulas-by-mode}
-use Rattle.account.proofs.Methods.{valid-by}
+use Rattle.account.proofs.Methods.{sound-by}
 use Rattle.account.proofs.Step.{by-step, police-length}
 
 -- ---- the rule, case by case
@@ -89,9 +89,9 @@ module _ (p : Terms) where
             sound = (h, omega arith, s);
           }
 
-    module _ (ok : inLimits p ≡ true) where
-      pub state-valid : valid (state past) ≡ true
-      state-valid = valid-by (state past) ok (held-high (capacity p) (rate p) past)
+    module _ (ok : termsGood p ≡ true) where
+      pub state-sound : accountSound (state past) ≡ true
+      state-sound = sound-by (state past) ok (held-high (capacity p) (rate p) past)
 
       -- a frame that no code before 8 refuses
       pub arrival : (n t : ℕ) → lengthCode n ≡ 0 → Agree (policed (state past) n t) (ruleArrived p past n t)
@@ -99,7 +99,7 @@ module _ (p : Terms) where
       arrival n t z =
           by-step (state past) n t (λ q. Agree q (ruleArrived p past n t))
           (λ m. absurd (m z))
-          (λ _ v. absurd (false≢true (sym v ∙ state-valid)))
+          (λ _ v. absurd (false≢true (sym v ∙ state-sound)))
           (λ _ _ l. simp (lt-ltb _ _ l) (record { same-code = refl; same-account = refl; sound = s }))
           (λ _ _ h l. simp (le-ltb _ _ h, rule-is (cost p n) t h ∙ lt-leb _ _ l) (short-agrees n t h))
           (λ _ _ h l. simp (le-ltb _ _ h, rule-is (cost p n) t h ∙ le-leb _ _ l) (forwarded-agrees n t h l))
@@ -119,7 +119,7 @@ module _ (p : Terms) where
   Stands past a = (a ≡ state past) × Sound past
 
   -- so a step answers with the rule's code, and the account stays so
-  one-step : inLimits p ≡ true → (steps : List Arrival) → Simulates steppingAccount (ruleOfAccount p) (λ w. w .code) Stands steps
+  one-step : termsGood p ≡ true → (steps : List StepCall) → Simulates steppingAccount (ruleOfAccount p) (λ w. w .code) Stands steps
   one-step ok steps =
       record {
         each = λ f _ past a st.
@@ -172,6 +172,6 @@ module _ (p : Terms) (past : List Reached) (n t : ℕ) (h : lastTime past ≤ t)
 pub steps-in-words : StepsInWords
 steps-in-words p ok before n t z h =
     let a = simulated before (one-step p ok before) [] (loaded p) (state-loaded p, tt) .1 in
-    let past : List Reached = rulePast p [] before in
+    let past : List Reached = stepRulePast p [] before in
     in-words p past n t h (policed (accountAfter (loaded p) before) n t .says .code)
     (ap (λ (b : Account). policed b n t .says .code) (a .0) ∙ arrival p past (a .1) ok n t z .same-code)

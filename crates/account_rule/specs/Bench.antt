@@ -7,24 +7,24 @@ use mathlib.Core.Path.{_≡_}
 use Rattle.terms.specs.Terms.{byteMode, frameMode}
 use Rattle.terms.specs.declared.Terms.{Terms}
 use Rattle.account.specs.Account.{loaded, capacityOf, costOf, toppedUp}
-use Rattle.account.specs.Step.{Told}
+use Rattle.account.specs.Step.{StepReport}
 use Rattle.account_rule.specs.Bucket.{costs}
-use Rattle.account_rule.specs.Rule.{Arrival, accountAfter, stepsTold, allowance, rulePast}
+use Rattle.account_rule.specs.Rule.{StepCall, accountAfter, stepReports, allowance, stepRulePast}
 
--- a step and what it is to tell
+-- a step and what it is to report
 pub record Case : Type 0 where
-  pub arrival : Arrival
-  pub tells : Told
+  pub step : StepCall
+  pub reports : StepReport
 
 -- octets, time, code and credit, in the sheet's order
 abbrev pub case : ℕ → ℕ → ℕ → ℕ → Case
-case n t code c = record { arrival = record { octets = n; time = t }; tells = record { code = code; credit = some c } }
+case n t code c = record { step = record { octets = n; time = t }; reports = record { code = code; credit = some c } }
 
-abbrev pub arrivals : List Case → List Arrival
-arrivals = map (λ c. c .arrival)
+abbrev pub stepCalls : List Case → List StepCall
+stepCalls = map (λ c. c .step)
 
-abbrev pub answers : List Case → List Told
-answers = map (λ c. c .tells)
+abbrev pub caseReports : List Case → List StepReport
+caseReports = map (λ c. c .reports)
 
 -- the account of image P, by mode
 abbrev pub termsP : ℕ → Terms
@@ -53,9 +53,9 @@ frameCases = case 64 0 0 100000 ∷ []
 abbrev pub BenchTable : Type 0
 BenchTable =
     (capacityOf (loaded (termsP byteMode)) ≡ 300000)
-    × (stepsTold (loaded (termsP byteMode)) (arrivals byteCases) ≡ answers byteCases)
-    × (stepsTold (loaded (termsP frameMode)) (arrivals frameCases) ≡ answers frameCases)
+    × (stepReports (loaded (termsP byteMode)) (stepCalls byteCases) ≡ caseReports byteCases)
+    × (stepReports (loaded (termsP frameMode)) (stepCalls frameCases) ≡ caseReports frameCases)
     × (costOf (loaded (termsP byteMode)) 200 ≡ 200000)
-    × (costs (rulePast (termsP byteMode) [] (take 2 (arrivals byteCases))) + 200000 ≡ 400000)
+    × (costs (stepRulePast (termsP byteMode) [] (take 2 (stepCalls byteCases))) + 200000 ≡ 400000)
     × (allowance (termsP byteMode) 500 ≡ 200 * 2000)
-    × (toppedUp (accountAfter (loaded (termsP byteMode)) (take 8 (arrivals byteCases))) (2 ^ 64 - 1) .credit ≡ 300000)
+    × (toppedUp (accountAfter (loaded (termsP byteMode)) (take 8 (stepCalls byteCases))) (2 ^ 64 - 1) .credit ≡ 300000)

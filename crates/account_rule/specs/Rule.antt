@@ -9,20 +9,20 @@ use lib.Dec.{ltb, eqb}
 use Rattle.lists.specs.Choice.{if_then_else_}
 use Rattle.lists.specs.History.{Machine, answers, final}
 use Rattle.frame.specs.Frame.{lengthCode}
-use Rattle.terms.specs.Terms.{termsWith, inLimits, bag, rate, cost}
+use Rattle.terms.specs.Terms.{termsWith, termsGood, bag, rate, cost}
 use Rattle.terms.specs.declared.Terms.{Terms}
 use Rattle.account.specs.Account.{loaded}
-use Rattle.account.specs.Step.{Told, policed}
+use Rattle.account.specs.Step.{StepReport, policed}
 use Rattle.account_rule.specs.Bucket.{Reached, reached, lastTime, ruleHolds, FromEach}
 use Rattle.account.specs.declared.Account.{Account}
 
 -- the frame of a policing step
-pub record Arrival : Type 0 where
+pub record StepCall : Type 0 where
   pub octets : ℕ
   pub time : ℕ
 
 -- ---- the steps: each on the account that the one before left
-abbrev pub steppingAccount : Machine Account Arrival Told
+abbrev pub steppingAccount : Machine Account StepCall StepReport
 steppingAccount =
     record {
       says = λ a s. policed a (s .octets) (s .time) .says;
@@ -30,14 +30,14 @@ steppingAccount =
     }
 
 -- what the last step leaves, and what the steps answer
-abbrev pub accountAfter : Account → List Arrival → Account
+abbrev pub accountAfter : Account → List StepCall → Account
 accountAfter a steps = final steppingAccount a steps
 
-abbrev pub stepsTold : Account → List Arrival → List Told
-stepsTold a steps = answers steppingAccount a steps
+abbrev pub stepReports : Account → List StepCall → List StepReport
+stepReports a steps = answers steppingAccount a steps
 
-abbrev pub codes : List Told → List ℕ
-codes = map (λ w. w .code)
+abbrev pub stepCodes : List StepReport → List ℕ
+stepCodes = map (λ w. w .code)
 
 -- ---- the rule
 
@@ -67,7 +67,7 @@ ruleStep p past n t =
     if not (eqb (lengthCode n) 0) then ruled (lengthCode n) past else ruleArrived p past n t
 
 -- the rule for a list of steps, each with the frames that have reached the account
-abbrev pub ruleOfAccount : Terms → Machine (List Reached) Arrival ℕ
+abbrev pub ruleOfAccount : Terms → Machine (List Reached) StepCall ℕ
 ruleOfAccount p =
     record {
       says = λ past s. ruleStep p past (s .octets) (s .time) .code;
@@ -75,11 +75,11 @@ ruleOfAccount p =
     }
 
 -- the codes, and the frames that have then reached the account
-abbrev pub ruleCodes : Terms → List Reached → List Arrival → List ℕ
-ruleCodes p past steps = answers (ruleOfAccount p) past steps
+abbrev pub stepRuleCodes : Terms → List Reached → List StepCall → List ℕ
+stepRuleCodes p past steps = answers (ruleOfAccount p) past steps
 
-abbrev pub rulePast : Terms → List Reached → List Arrival → List Reached
-rulePast p past steps = final (ruleOfAccount p) past steps
+abbrev pub stepRulePast : Terms → List Reached → List StepCall → List Reached
+stepRulePast p past steps = final (ruleOfAccount p) past steps
 
 -- ---- the claims
 
@@ -97,20 +97,20 @@ AllowanceByMode =
 -- for every list of steps the codes are those of the rule
 abbrev pub RuleOfSteps : Type 0
 RuleOfSteps =
-    (p : Terms) → inLimits p ≡ true → (steps : List Arrival)
-    → codes (stepsTold (loaded p) steps) ≡ ruleCodes p [] steps
+    (p : Terms) → termsGood p ≡ true → (steps : List StepCall)
+    → stepCodes (stepReports (loaded p) steps) ≡ stepRuleCodes p [] steps
 
 -- in words: after any list of steps, a frame that reaches the account gets 0 exactly where the sums from itself and from
 -- every earlier frame that reached it are within the allowance, and 9 where not
 abbrev pub StepsInWords : Type 0
 StepsInWords =
-    (p : Terms) → inLimits p ≡ true → (before : List Arrival) (n t : ℕ)
-    → lengthCode n ≡ 0 → lastTime (rulePast p [] before) ≤ t
-    → ((policed (accountAfter (loaded p) before) n t .says .code ≡ 0) ↔ FromEach (allowance p) t (cost p n) (rulePast p [] before))
-    × ((FromEach (allowance p) t (cost p n) (rulePast p [] before) → ⊥) → policed (accountAfter (loaded p) before) n t .says .code ≡ 9)
+    (p : Terms) → termsGood p ≡ true → (before : List StepCall) (n t : ℕ)
+    → lengthCode n ≡ 0 → lastTime (stepRulePast p [] before) ≤ t
+    → ((policed (accountAfter (loaded p) before) n t .says .code ≡ 0) ↔ FromEach (allowance p) t (cost p n) (stepRulePast p [] before))
+    × ((FromEach (allowance p) t (cost p n) (stepRulePast p [] before) → ⊥) → policed (accountAfter (loaded p) before) n t .says .code ≡ 9)
 
 -- line octets change no code in frame mode: both sides of the rule grow alike, and mode 3 answers as mode 1 (Q-3)
 abbrev pub FrameModesAlike : Type 0
 FrameModesAlike =
-    (s k j : ℕ) → inLimits (termsWith s k j 1) ≡ true → (steps : List Arrival)
-    → codes (stepsTold (loaded (termsWith s k j 3)) steps) ≡ codes (stepsTold (loaded (termsWith s k j 1)) steps)
+    (s k j : ℕ) → termsGood (termsWith s k j 1) ≡ true → (steps : List StepCall)
+    → stepCodes (stepReports (loaded (termsWith s k j 3)) steps) ≡ stepCodes (stepReports (loaded (termsWith s k j 1)) steps)

@@ -9,21 +9,21 @@ use script::Line;
 // An answer, with the records after it.
 struct After {
     answer: Reception,
-    records: [u64; 3081],
+    memory: [u64; 3081],
 }
 
 fn received(
     frame: Arrival,
     rows: [u8; 18],
     octets: usize,
-    records: [u64; 3081],
+    memory: [u64; 3081],
     words: usize,
 ) -> After {
-    let mut held = records;
+    let mut held = memory;
     let answer = receive::receive(frame, &rows[0..octets % 19], &mut held[0..words % 3082]);
     After {
         answer,
-        records: held,
+        memory: held,
     }
 }
 
@@ -39,36 +39,36 @@ fn show_answer(answer: Reception) {
     say::number(answer.number() as u64);
 }
 
-// The last stamp, the last numbers on A and B, and the two words of a number's delivery on A and on B.
-fn show_record(records: [u64; 3081], row: usize, number: u8) {
-    let first = row % 3 * receive::RECORD_WORDS;
+// The last time, the last numbers on A and B, and the two words of a number's delivery on A and on B.
+fn show_record(memory: [u64; 3081], row: usize, number: u8) {
+    let first = row % 3 * receive::MEMORY_WORDS;
     let a = first + 3 + 2 * number as usize;
     say::text(b" |");
-    say::number(records[first]);
-    say::two(records[first + 1], records[first + 2]);
+    say::number(memory[first]);
+    say::two(memory[first + 1], memory[first + 2]);
     say::text(b" |");
-    say::two(records[a], records[a + 1]);
+    say::two(memory[a], memory[a + 1]);
     say::text(b" |");
-    say::two(records[a + 512], records[a + 513]);
+    say::two(memory[a + 512], memory[a + 513]);
 }
 
-// The frame of a line: link, number and stamp.
+// The frame of a line: link, number and time.
 pub(crate) fn arrive(room: Room, network: Network, n: Line) -> Room {
     let number = (n.f % 256) as u8;
     let frame = Arrival {
         link: (n.e % 65536) as u16,
         network,
         number,
-        stamp: n.g,
+        time: n.g,
     };
     let rows = room.rows;
-    let held = room.records;
+    let held = room.memory;
     let after = received(frame, rows, room.octets, held, room.words);
     let answer = after.answer;
-    let records = after.records;
+    let memory = after.memory;
     show_answer(answer);
-    show_record(records, room.shown, number);
+    show_record(memory, room.shown, number);
     let mut next = room;
-    next.records = records;
+    next.memory = memory;
     next
 }

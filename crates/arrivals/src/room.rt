@@ -3,17 +3,17 @@
 //   row row number SkewMax        rows 0 to 2
 //   lent octets words             how much is lent of rows and records
 //   empty                         all words of all records are 0
-//   word row place value          a word of a record
+//   word row offset value          a word of a record
 //   show row                      the record that is printed with each answer
-//   A link number stamp           a frame on network A
-//   B link number stamp           and on network B
+//   A link number time           a frame on network A
+//   B link number time           and on network B
 // A remainder keeps each number within its width; no case needs it.
 use script::Line;
 
 // Rows, records, how much of them is lent, and the row whose record is shown.
 pub(crate) struct Room {
     pub(crate) rows: [u8; 18],
-    pub(crate) records: [u64; 3081],
+    pub(crate) memory: [u64; 3081],
     pub(crate) octets: usize,
     pub(crate) words: usize,
     pub(crate) shown: usize,
@@ -22,7 +22,7 @@ pub(crate) struct Room {
 pub(crate) fn empty() -> Room {
     Room {
         rows: [0u8; 18],
-        records: [0u64; 3081],
+        memory: [0u64; 3081],
         octets: 18,
         words: 3081,
         shown: 0,
@@ -42,15 +42,15 @@ fn put_row(room: Room, n: Line) -> Room {
 
 pub(crate) fn put(room: Room, first: u8, n: Line) -> Room {
     let mut next = room;
-    let at = n.e as usize % 3 * receive::RECORD_WORDS + n.f as usize % receive::RECORD_WORDS;
+    let at = n.e as usize % 3 * receive::MEMORY_WORDS + n.f as usize % receive::MEMORY_WORDS;
     match first {
         b'r' => return put_row(room, n),
         b'l' => {
             next.octets = n.f as usize % 19;
             next.words = n.g as usize % 3082;
         }
-        b'e' => next.records = [0u64; 3081],
-        b'w' => next.records[at] = n.g,
+        b'e' => next.memory = [0u64; 3081],
+        b'w' => next.memory[at] = n.g,
         b's' => next.shown = n.g as usize % 3,
         _ => (),
     }

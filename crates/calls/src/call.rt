@@ -17,7 +17,7 @@ fn narrow(x: u64) -> u32 {
     (x % 0x0001_0000_0000) as u32
 }
 
-// The octets of a frame, all those behind its link number 0.
+// The octets of a frame, all those after its link number 0.
 fn frame(constant: u32, link: u16) -> [u8; 1519] {
     let mut octets = [0u8; 1519];
     octets_write::put_u32(&mut octets, 0, constant);

@@ -10,29 +10,29 @@ use Rattle.lists.specs.History
 use Rattle.octets.specs.Numbers.{numberAt}
 use Rattle.octets.specs.Runs.{octetsAt, joined}
 use Rattle.frame.specs.Frame.{lengthCode}
-use Rattle.terms.specs.Terms.{byteMode, frameMode, inLimits, bag, added, charge, rate, capacity, byOctets, charged, cost}
-use Rattle.account.specs.Account.{valid, creditUpTo}
+use Rattle.terms.specs.Terms.{byteMode, frameMode, termsGood, bag, added, charge, rate, capacity, byOctets, charged, cost}
+use Rattle.account.specs.Account.{accountSound, creditUpTo}
 use Rattle.account.specs.Step.{judged, judgedAt, policed}
 use Rattle.account_rule.specs.Bench.{Case, termsP, byteCases, frameCases}
 use Rattle.lists.specs.Leading.{leading}
 use Rattle.rows.specs.Rows.{foundIn}
 use Rattle.tables.specs.Rows.{Config, termsAt, linkAt, accountIn, configFor}
 use Rattle.tables.specs.Rules.{portsSound, sizesSound, linkSound, accountGood, numberRises, linkGood}
-use Rattle.image_layout.specs.Layout.{fieldPlace, constantGood}
-use Rattle.image_read.specs.Read.{accountFields, fieldCode, headGood, headCode, inOrder, dataOctets, isFull, valuesGood, nextCode, goodField, accountCount, linkCount, readEnd, readImage}
+use Rattle.image_layout.specs.Layout.{fieldOffset, constantGood}
+use Rattle.image_read.specs.Read.{accountFields, fieldCode, headGood, headCode, inOrder, dataOctets, isFull, valuesGood, nextCode, goodField, goodAccounts, goodLinks, readEnd, readImage}
 use Rattle.image_load.specs.Loading.{Runs, runsOf, accountRows, linkRows, capacities, longEnough, loading}
 use Rattle.image_load.specs.Fresh.{Begins, Fresh}
 use Rattle.image_read.specs.Bench.{accountP, linkP, imageP, answerP}
-use Rattle.image_read.specs.declared.Loaded.{Loaded}
+use Rattle.image_read.specs.declared.ImageAnswer.{ImageAnswer}
 use Rattle.image_load.proofs.Fresh.{load-accepts, fresh-holds, fresh-sound}
 use Rattle.image_read.proofs.Bench.{image-p-reads}
-use Rattle.image_round_trip.specs.Trips.{loadedTables}
+use Rattle.image_round_trip.specs.RoundTrips.{loadedTables}
 use Rattle.filter.specs.Filter.{frameCode, portCode, routed}
-use Rattle.switch.specs.Call.{State, stateOf, inUse, accountHeld, decided, called}
-use Rattle.demands.specs.History.{answers, final, configIn, stateIn}
+use Rattle.switch.specs.Call.{State, stateOf, inUseBy, accountHeld, decided, called}
+use Rattle.demands.specs.History.{callAnswers, finalState, configIn, stateIn}
 use Rattle.demands.specs.Rule.{imageTerms, meant}
 use Rattle.demands.specs.Demand3.{MeantLimits}
-use Rattle.demands.specs.Bench.{frameImageP, calls, verdicts, replied, left, CallBenchTable}
+use Rattle.demands.specs.Bench.{frameImageP, calls, verdicts, caseAnswers, stateAfter, CallBenchTable}
 use Rattle.demands.proofs.Rule.{history-verdicts}
 use Rattle.demands.proofs.Words.{loaded-fresh, loaded-config}
 use Rattle.demands.proofs.Isolation.{isolation-of-fresh-tables}
@@ -45,7 +45,7 @@ abbrev runs-of : List ℕ → Runs
 runs-of account = runsOf account (300000 ∷ []) (0 ∷ []) linkP
 
 frame-p-reads : readImage frameImageP ≡ answerP
-unfolding numberAt inLimits leading termsAt linkAt portsSound sizesSound linkSound accountGood numberRises linkGood fieldPlace constantGood fieldCode headGood headCode inOrder dataOctets isFull valuesGood nextCode goodField accountCount linkCount readEnd readImage
+unfolding numberAt termsGood leading termsAt linkAt portsSound sizesSound linkSound accountGood numberRises linkGood fieldOffset constantGood fieldCode headGood headCode inOrder dataOctets isFull valuesGood nextCode goodField goodAccounts goodLinks readEnd readImage
 frame-p-reads = refl
 
 -- an image that reads as image P does, by its rows
@@ -53,7 +53,7 @@ fresh-by : (s account : List ℕ) → readImage s ≡ answerP → Begins (accoun
     → Begins (linkRows s 1 1) linkP → Fresh s (runs-of account)
 fresh-by s account e a c l =
     record {
-      accepted = ap (λ (q : Loaded). q .code) e;
+      accepted = ap (λ (q : ImageAnswer). q .code) e;
       accounts = rw e a;
       credits = rw e c;
       lasts = rw e refl;
@@ -61,70 +61,70 @@ fresh-by s account e a c l =
     }
 
 fresh-p : Fresh imageP (runs-of accountP)
-unfolding accountRows capacities linkRows joined octetsAt fieldPlace termsAt numberAt capacity rate added charge bag
+unfolding accountRows capacities linkRows joined octetsAt fieldOffset termsAt numberAt capacity rate added charge bag
 fresh-p = fresh-by imageP accountP (image-p-reads .0) refl refl refl
 
 fresh-frame-p : Fresh frameImageP (runs-of accountP1)
-unfolding accountRows capacities linkRows joined octetsAt fieldPlace termsAt numberAt capacity rate added charge bag
+unfolding accountRows capacities linkRows joined octetsAt fieldOffset termsAt numberAt capacity rate added charge bag
 fresh-frame-p = fresh-by frameImageP accountP1 frame-p-reads refl refl refl
 
 -- ---- the answers from these, computed
-abbrev config-by : List ℕ → Loaded → Config
+abbrev config-by : List ℕ → ImageAnswer → Config
 config-by account q = configFor (q .settings) account linkP
 
 abbrev full : State
 full = stateOf (300000 ∷ []) (0 ∷ [])
 
-computed : answers (config-by accountP answerP) full (calls byteCases) ≡ verdicts byteCases
-unfolding History.answers called routed frameCode lengthCode numberAt foundIn leading linkAt accountHeld termsAt inUse decided portsSound sizesSound linkSound inLimits bag added charge rate capacity byOctets charged cost valid creditUpTo judged judgedAt policed portCode
+computed : callAnswers (config-by accountP answerP) full (calls byteCases) ≡ verdicts byteCases
+unfolding History.answers called routed frameCode lengthCode numberAt foundIn leading linkAt accountHeld termsAt inUseBy decided portsSound sizesSound linkSound termsGood bag added charge rate capacity byOctets charged cost accountSound creditUpTo judged judgedAt policed portCode
 computed = refl
 
-computed-frame : answers (config-by accountP1 answerP) full (calls frameCases) ≡ verdicts frameCases
-unfolding History.answers called routed frameCode lengthCode numberAt foundIn leading linkAt accountHeld termsAt inUse decided portsSound sizesSound linkSound inLimits bag added charge rate capacity byOctets charged cost valid creditUpTo judged judgedAt policed portCode
+computed-frame : callAnswers (config-by accountP1 answerP) full (calls frameCases) ≡ verdicts frameCases
+unfolding History.answers called routed frameCode lengthCode numberAt foundIn leading linkAt accountHeld termsAt inUseBy decided portsSound sizesSound linkSound termsGood bag added charge rate capacity byOctets charged cost accountSound creditUpTo judged judgedAt policed portCode
 computed-frame = refl
 
 -- ---- and from every load
 module _ (s account : List ℕ) (e : readImage s ≡ answerP) (fresh : Fresh s (runs-of account)) (r : Runs) (long : longEnough 1 1 r ≡ true) where
   answer : loading s r .answer ≡ readImage s
-  answer = load-accepts s r (ap (λ (q : Loaded). q .code) e) (rw e long)
+  answer = load-accepts s r (ap (λ (q : ImageAnswer). q .code) e) (rw e long)
 
   accepted : loading s r .answer .code ≡ 0
-  accepted = ap (λ (q : Loaded). q .code) (answer ∙ e)
+  accepted = ap (λ (q : ImageAnswer). q .code) (answer ∙ e)
 
   -- two fresh starts of one image answer alike
-  from-any : (cases : List Case) → replied s r cases ≡ answers (config-by account answerP) full (calls cases)
+  from-any : (cases : List Case) → caseAnswers s r cases ≡ callAnswers (config-by account answerP) full (calls cases)
   from-any cases =
       let f = loaded-fresh s r accepted in
-      ap (λ (g : Config). answers g (stateIn (loading s r .runs)) (calls cases)) (loaded-config s r accepted)
+      ap (λ (g : Config). callAnswers g (stateIn (loading s r .runs)) (calls cases)) (loaded-config s r accepted)
       ∙ history-verdicts s _ f (calls cases)
       ∙ sym (history-verdicts s (runs-of account) fresh (calls cases))
-      ∙ ap (λ (q : Loaded). answers (config-by account q) full (calls cases)) e
+      ∙ ap (λ (q : ImageAnswer). callAnswers (config-by account q) full (calls cases)) e
 
   -- and leave the same
   left-any : (cases : List Case)
-      → (getD (left s r cases .credits) 0 0 ≡ getD (final (config-by account answerP) full (calls cases) .credits) 0 0)
-      × (getD (left s r cases .lasts) 0 0 ≡ getD (final (config-by account answerP) full (calls cases) .lasts) 0 0)
+      → (getD (stateAfter s r cases .credits) 0 0 ≡ getD (finalState (config-by account answerP) full (calls cases) .credits) 0 0)
+      × (getD (stateAfter s r cases .lasts) 0 0 ≡ getD (finalState (config-by account answerP) full (calls cases) .lasts) 0 0)
   left-any cases =
       let f = loaded-fresh s r accepted in
       let one : 0 < readImage s .settings .accounts = rw e (lit< tt) in
       let same = isolation-of-fresh-tables s 0 one (loading s r .runs) f (calls cases) (runs-of account) fresh (calls cases) refl in
       let g : loadedTables s r ≡ configIn s (loading s r .runs) = loaded-config s r accepted in (
-        ap (λ (c : Config). getD (final c (stateIn (loading s r .runs)) (calls cases) .credits) 0 0) g ∙ same .credit
-            ∙ ap (λ (q : Loaded). getD (final (config-by account q) full (calls cases) .credits) 0 0) e,
-        ap (λ (c : Config). getD (final c (stateIn (loading s r .runs)) (calls cases) .lasts) 0 0) g ∙ same .last
-            ∙ ap (λ (q : Loaded). getD (final (config-by account q) full (calls cases) .lasts) 0 0) e,
+        ap (λ (c : Config). getD (finalState c (stateIn (loading s r .runs)) (calls cases) .credits) 0 0) g ∙ same .credit
+            ∙ ap (λ (q : ImageAnswer). getD (finalState (config-by account q) full (calls cases) .credits) 0 0) e,
+        ap (λ (c : Config). getD (finalState c (stateIn (loading s r .runs)) (calls cases) .lasts) 0 0) g ∙ same .last
+            ∙ ap (λ (q : ImageAnswer). getD (finalState (config-by account q) full (calls cases) .lasts) 0 0) e,
       )
 
-computed-left : final (config-by accountP answerP) full (calls byteCases) ≡ stateOf (100000 ∷ []) ((2 ^ 64 - 1) ∷ [])
-unfolding History.final called routed frameCode lengthCode numberAt foundIn leading linkAt accountHeld termsAt inUse decided portsSound sizesSound linkSound inLimits bag added charge rate capacity byOctets charged cost valid creditUpTo judged judgedAt policed portCode
+computed-left : finalState (config-by accountP answerP) full (calls byteCases) ≡ stateOf (100000 ∷ []) ((2 ^ 64 - 1) ∷ [])
+unfolding History.final called routed frameCode lengthCode numberAt foundIn leading linkAt accountHeld termsAt inUseBy decided portsSound sizesSound linkSound termsGood bag added charge rate capacity byOctets charged cost accountSound creditUpTo judged judgedAt policed portCode
 computed-left = refl
 
 terms-p : (imageTerms imageP 0 ≡ termsP byteMode) × (imageTerms frameImageP 0 ≡ termsP frameMode)
-unfolding termsAt numberAt fieldPlace
+unfolding termsAt numberAt fieldOffset
 terms-p = (refl, refl)
 
 capacity-p : capacity (accountIn (accountFields imageP) 0) ≡ 300000
-unfolding capacity rate added charge bag termsAt numberAt fieldPlace
+unfolding capacity rate added charge bag termsAt numberAt fieldOffset
 capacity-p = refl
 
 pub call-bench-table : CallBenchTable
@@ -144,5 +144,5 @@ call-bench-table r long =
     )
 
 pub meant-limits : MeantLimits
-unfolding meant foundIn numberAt inLimits leading termsAt linkAt portsSound sizesSound linkSound accountGood numberRises linkGood fieldPlace constantGood fieldCode headGood headCode inOrder dataOctets isFull valuesGood nextCode goodField accountCount linkCount readEnd readImage
+unfolding meant foundIn numberAt termsGood leading termsAt linkAt portsSound sizesSound linkSound accountGood numberRises linkGood fieldOffset constantGood fieldCode headGood headCode inOrder dataOctets isFull valuesGood nextCode goodField goodAccounts goodLinks readEnd readImage
 meant-limits = (refl, refl, refl)

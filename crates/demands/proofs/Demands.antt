@@ -5,7 +5,7 @@ use Rattle.rows.proofs.Claims.{rows-in-use}
 use Rattle.fields.proofs.Claims.{field-reads-back, field-is-spelled, field-figures}
 use Rattle.frame.proofs.Claims.{length-limits, payload-length, reading-answers, reading-refused}
 use Rattle.terms.proofs.Claims.{capacity-largest, cost-largest, formulas-by-mode, terms-limits, checked-methods}
-use Rattle.account.proofs.Claims.{forwarded-step-takes-cost, refused-methods-rest, refused-step-keeps, refused-step-tells, short-step-tops-up, step-answers, step-is-top-up-and-debit, told-apart, valid-within}
+use Rattle.account.proofs.Claims.{forwarded-step-takes-cost, refused-methods-idle, refused-step-keeps, refused-step-reports, short-step-tops-up, step-answers, step-is-top-up-and-debit, steps-apart, sound-within}
 use Rattle.account_rule.proofs.Bench.{bench-table}
 use Rattle.account_rule.proofs.Bucket.{rule-read}
 use Rattle.account_rule.proofs.Rule.{allowance-by-mode, rule-of-steps, steps-in-words}
@@ -18,7 +18,7 @@ use Rattle.image_load.proofs.Claims.{load-codes, load-refuses, offsets-inside, 
 use Rattle.image_load.proofs.Fresh.{fresh-holds, fresh-sound, load-accepts, load-fresh}
 use Rattle.image_load.proofs.Prefix.{prefix-load}
 use Rattle.image_write.proofs.Claims.{first-bad-account, first-bad-constant, first-bad-link, image-length, refused-write-keeps, write-accepts, write-codes, write-offsets, write-refuses, writes-image}
-use Rattle.image_round_trip.proofs.Trips.{accepted-is-image, image-is-accepted, read-write, write-read}
+use Rattle.image_round_trip.proofs.RoundTrips.{accepted-is-image, image-is-accepted, read-write, write-read}
 use Rattle.switch.proofs.Claims.{call-answers, call-effects, codes-in-order, length-alone, ports-beyond, refused-call-keeps, rows-beyond-unread, verdicts-apart}
 use Rattle.demands.proofs.Bench.{call-bench-table, meant-limits}
 use Rattle.demands.proofs.Isolation.{isolation, isolation-of-fresh-tables}
@@ -57,8 +57,8 @@ demand-1 =
       answers = answers;
       refusals-keep = refusals-keep;
       verdicts-apart = verdicts-apart;
-      steps-apart = told-apart;
-      step-tells = refused-step-tells;
+      steps-apart = steps-apart;
+      step-reports = refused-step-reports;
       offsets = offsets-inside;
     }
 
@@ -83,7 +83,7 @@ verdicts =
       finds-none = finds-none;
       takes-cost = forwarded-step-takes-cost;
       top-up-and-debit = step-is-top-up-and-debit;
-      methods-rest = refused-methods-rest;
+      methods-idle = refused-methods-idle;
     }
 
 pub images : Images
@@ -116,7 +116,7 @@ figures =
       payload = payload-length;
       terms = terms-limits;
       checked = checked-methods;
-      valid = valid-within;
+      sound = sound-within;
       formulas = formulas-by-mode;
       capacity = capacity-largest;
       cost = cost-largest;

@@ -19,7 +19,7 @@ use Rattle.rows.proofs.Finding.{first-found}
 use Rattle.tables.proofs.Claims.{links-same}
 use Rattle.image_read.specs.Read.{linkFields, readImage}
 use Rattle.filter.specs.Filter.{frameCode, portCode}
-use Rattle.switch.specs.Call.{State, Call, refusedWith, onLink, called}
+use Rattle.switch.specs.Call.{State, Call, refusedWith, byLink, called}
 use Rattle.filter.proofs.Filter.{frame-zero}
 use Rattle.switch.proofs.Call.{onRow, call-refused, call-row}
 use Rattle.demands.specs.Rule.{imageLink, linkRow, linkCode, filterCode, names, destinationOctets, meant, passing}
@@ -99,5 +99,5 @@ module _ (s : List ℕ) (g : Config) (t : Tables s g) (q : State) (f : Call) whe
     pub call-nowhere : linkRow s f ≡ Nowhere → called g q f ≡ refusedWith 4 q
     call-nowhere e = by-image-row ∙ ap (onRow g q f) e
 
-    pub call-link : (j : ℕ) → linkRow s f ≡ At j → j < readImage s .settings .links → called g q f ≡ onLink g q f (imageLink s j)
-    call-link j e h = by-image-row ∙ ap (onRow g q f) e ∙ ap (onLink g q f) (t .link j h)
+    pub call-link : (j : ℕ) → linkRow s f ≡ At j → j < readImage s .settings .links → called g q f ≡ byLink g q f (imageLink s j)
+    call-link j e h = by-image-row ∙ ap (onRow g q f) e ∙ ap (byLink g q f) (t .link j h)

@@ -19,10 +19,10 @@ use Rattle.rows.specs.declared.Found.the-variants.{At, Nowhere}
 use Rattle.image_read.specs.Read.{readImage}
 use Rattle.image_load.specs.Loading.{Runs, loading}
 use Rattle.image_load.specs.Fresh.{Fresh}
-use Rattle.switch.specs.Verdict.{Told, told, withMask}
+use Rattle.switch.specs.Verdict.{Report, reported, withMask}
 use Rattle.switch.specs.declared.Verdict.the-variants.{Refused}
 use Rattle.switch.specs.Call.{State, Call, accountHeld}
-use Rattle.demands.specs.History.{callsOn, final, configIn, stateIn}
+use Rattle.demands.specs.History.{callsOn, finalState, configIn, stateIn}
 use Rattle.demands.specs.Rule.{imageTerms, imageLink, linkRow, filterCode, names, destinationOctets, meant, reachedIn}
 use Rattle.demands.specs.Demand3.{Isolation, IsolationOfFreshTables}
 use Rattle.demands.proofs.Tables.{Tables, tables}
@@ -31,7 +31,7 @@ use Rattle.demands.proofs.Words.{loaded-fresh, loaded-config}
 
 module _ (s : List ℕ) (a : ℕ) where
   -- the answer to a frame meant for the account goes by the frames that reached it
-  abbrev verdict-by : ℕ → Call → Account → Told
+  abbrev verdict-by : ℕ → Call → Account → Report
   verdict-by j f x = withMask (imageLink s j .mask) (policed x (length (f .octets)) (f .time) .says)
 
   row-names : (before after : List Call) (f : Call) → reachedIn s before a ≡ reachedIn s after a → (d : Found) → names s a d ≡ true
@@ -46,7 +46,7 @@ module _ (s : List ℕ) (a : ℕ) where
       → verdict-for s before f ≡ verdict-for s after f
   unfolding verdict-for meant
   meant-verdict before after f e m =
-      ap (λ (w : Told). if not (eqb (filterCode s f) 0) then told (Refused (filterCode s f)) else w)
+      ap (λ (w : Report). if not (eqb (filterCode s f) 0) then reported (Refused (filterCode s f)) else w)
       (row-names before after f e (linkRow s f) (both (leb destinationOctets (length (f .octets))) (names s a (linkRow s f)) m .1))
 
   -- ---- tables after a past, in which the frames that reached the account are those of the calls `mine`
@@ -84,8 +84,8 @@ isolation-of-fresh-tables s a b r fresh h r′ fresh′ h′ e =
     let g′ : Config = configIn s r′ in
     let z = alike h h′ (alone s a g (tables s r fresh) h) (alone s a g′ (tables s r′ fresh′) h′) e
     [] (stateIn r) (mine-starts s a r fresh) (stateIn r′) (mine-starts s a r′ fresh′) in
-    let x = holds (r .accounts) (final g (stateIn r) h) a _ (mine-holds s a g _ _ (z .1) b) in
-    let y = holds (r′ .accounts) (final g′ (stateIn r′) h′) a _ (mine-holds s a g′ _ _ (z .2) b) in
+    let x = holds (r .accounts) (finalState g (stateIn r) h) a _ (mine-holds s a g _ _ (z .1) b) in
+    let y = holds (r′ .accounts) (finalState g′ (stateIn r′) h′) a _ (mine-holds s a g′ _ _ (z .2) b) in
     record { verdicts = z .0; credit = x .0 ∙ sym (y .0); last = x .1 ∙ sym (y .1) }
 
 pub isolation : Isolation

@@ -17,12 +17,12 @@ use Rattle.lists.proofs.History.{Simulates, simulated, same-answers, final-call
 use Rattle.lists.proofs.Tests.{split}
 use Rattle.frame.specs.Frame.{lengthCode}
 use Rattle.terms.specs.declared.Terms.{Terms}
-use Rattle.account.specs.Account.{accountOf, valid}
+use Rattle.account.specs.Account.{accountOf, accountSound}
 use Rattle.account.specs.Step.{policed}
 use Rattle.account_rule.specs.Bucket.{Reached}
 use Rattle.account_rule.specs.Rule.{ruleArrived, ruleStep}
 use Rattle.account.specs.declared.Account.{Account}
-use Rattle.account_rule.proofs.Rule.{Sound, state, Agree, step-arrived, state-valid, arrival, state-loaded}
+use Rattle.account_rule.proofs.Rule.{Sound, state, Agree, step-arrived, state-sound, arrival, state-loaded}
 use Rattle.account.proofs.Step.{policed-keeps}
 use Rattle.tables.specs.Rows.{Config}
 use Rattle.rows.specs.declared.Found.{Found}
@@ -33,12 +33,12 @@ use Rattle.image_read.specs.Read.{readImage}
 use Rattle.image_load.specs.Loading.{Runs}
 use Rattle.image_load.specs.Fresh.{Fresh}
 use Rattle.filter.specs.Filter.{portCode}
-use Rattle.switch.specs.Verdict.{Told, told, withMask}
-use Rattle.switch.specs.Call.{State, stateOf, Call, After, accountsInUse, inUse, accountHeld, Decided, kept, decided, stored, refusedWith, onLink, called}
+use Rattle.switch.specs.Verdict.{Report, reported, withMask}
+use Rattle.switch.specs.Call.{State, stateOf, Call, After, accountsInUse, inUseBy, accountHeld, Decided, kept, decided, stored, refusedWith, byLink, called}
 use Rattle.switch.specs.declared.Verdict.the-variants.{Refused}
 use Rattle.filter.proofs.Filter.{frame-zero}
 use Rattle.switch.proofs.Call.{held-again, decided-refused, decided-policed}
-use Rattle.demands.specs.History.{callsOn, answers, final, configIn, stateIn}
+use Rattle.demands.specs.History.{callsOn, callAnswers, finalState, configIn, stateIn}
 use Rattle.demands.specs.Rule.{imageTerms, imageLink, linkRow, filterCode, passing, reachedIn, ruleCode, ruleOfCalls}
 use Rattle.demands.specs.Demand3.{RuleOfFreshTables}
 use Rattle.demands.proofs.Tables.{Tables, tables, long, starts-loaded}
@@ -65,13 +65,13 @@ module _ (s : List ℕ) (f : Call) (a : ℕ) where
 abbrev pub account-of : List ℕ → List Call → ℕ → Account
 account-of s past a = state (imageTerms s a) (reachedIn s past a)
 
-abbrev pub link-verdict : List ℕ → List Call → Call → Found → Told
-link-verdict s past f Nowhere = told (Refused (filterCode s f))
+abbrev pub link-verdict : List ℕ → List Call → Call → Found → Report
+link-verdict s past f Nowhere = reported (Refused (filterCode s f))
 link-verdict s past f (At j) = withMask (imageLink s j .mask) (policed (account-of s past (imageLink s j .account)) (length (f .octets)) (f .time) .says)
 
-unfoldable pub verdict-for : List ℕ → List Call → Call → Told
+unfoldable pub verdict-for : List ℕ → List Call → Call → Report
 verdict-for s past f =
-    if not (eqb (filterCode s f) 0) then told (Refused (filterCode s f)) else link-verdict s past f (linkRow s f)
+    if not (eqb (filterCode s f) 0) then reported (Refused (filterCode s f)) else link-verdict s past f (linkRow s f)
 
 -- ---- each account is the one that the frames which reached it leave
 pub record Stands (s : List ℕ) (g : Config) (past : List Call) (q : State) : Type 0 where
@@ -104,7 +104,7 @@ module _ (s : List ℕ) (g : Config) (t : Tables s g) (past : List Call) (q : St
       let z : eqb (filterCode s f) 0 ≡ false = ne-eqb (filterCode s f) 0 (λ d. n (sym e ∙ d)) in
       record {
         code = simp z (sym e);
-        verdict = simp z (ap (λ (c : ℕ). told (Refused c)) (sym e));
+        verdict = simp z (ap (λ (c : ℕ). reported (Refused c)) (sym e));
         stands = stays (λ a. passes-none s f a (eqb-false _ _ z));
       }
 
@@ -123,7 +123,7 @@ module _ (s : List ℕ) (g : Config) (t : Tables s g) (past : List Call) (q : St
     known = sound-account link (readImage s .settings .accounts) _ (t .rules j h)
 
     all-used : accountsInUse g q ≡ readImage s .settings .accounts
-    unfolding inUse
+    unfolding inUseBy
     all-used =
         let b = t .account-count in
         let c = t .account-room in
@@ -135,22 +135,22 @@ module _ (s : List ℕ) (g : Config) (t : Tables s g) (past : List Call) (q : St
     abbrev account : Account
     account = account-of s past a
 
-    valid-account : valid account ≡ true
-    valid-account = state-valid (imageTerms s a) (reachedIn s past a) (st .sound a known) (t .limits a known)
+    sound-here : accountSound account ≡ true
+    sound-here = state-sound (imageTerms s a) (reachedIn s past a) (st .sound a known) (t .limits a known)
 
     decided-is : (d : Decided) → decided link (readImage s .settings .accounts) account n (f .port) (f .time) ≡ d
-        → onLink g q f link ≡ stored q a d
+        → byLink g q f link ≡ stored q a d
     decided-is d r =
         ap (stored q a) ((λ k. decided link (all-used k) (st .is a known k) n (f .port) (f .time)) ∙ r)
 
-    over-refused : (portCode link n (f .port) ≡ 0 → ⊥) → Ruled s g past f (onLink g q f link)
+    over-refused : (portCode link n (f .port) ≡ 0 → ⊥) → Ruled s g past f (byLink g q f link)
     over-refused m =
         let c : filterCode s f ≡ portCode link n (f .port) = filter-link s f z j e in
-        let d = decided-is (kept (portCode link n (f .port)) account) (decided-refused link (readImage s .settings .accounts) account n (f .port) (f .time) (t .rules j h) valid-account m) in
+        let d = decided-is (kept (portCode link n (f .port)) account) (decided-refused link (readImage s .settings .accounts) account n (f .port) (f .time) (t .rules j h) sound-here m) in
         let p : account ≡ accountHeld (g .accounts) q a = sym (st .is a known) in
         let k : stateOf (set (q .credits) a (account .credit)) (set (q .lasts) a (account .last)) ≡ q =
         (λ i. stateOf (set (q .credits) a (p i .credit)) (set (q .lasts) a (p i .last))) ∙ held-again (g .accounts) q a in
-        subst (Ruled s g past f) (sym (d ∙ (λ i. record { says = told (Refused (portCode link n (f .port))); state = k i })))
+        subst (Ruled s g past f) (sym (d ∙ (λ i. record { says = reported (Refused (portCode link n (f .port))); state = k i })))
         (refused-by (portCode link n (f .port)) c m)
 
     -- the frame reaches the account, or is late
@@ -234,13 +234,13 @@ module _ (s : List ℕ) (g : Config) (t : Tables s g) (past : List Call) (q : St
       unfolding verdict-for
       verdict-is = rw e (simp (eq-eqb (filterCode s f) 0 zero-code))
 
-      over-policed : Ruled s g past f (onLink g q f link)
+      over-policed : Ruled s g past f (byLink g q f link)
       over-policed =
           subst (Ruled s g past f)
-          (sym (decided-is _ (decided-policed link (readImage s .settings .accounts) account n (f .port) (f .time) (t .rules j h) valid-account m)))
+          (sym (decided-is _ (decided-policed link (readImage s .settings .accounts) account n (f .port) (f .time) (t .rules j h) sound-here m)))
           (record { code = code-is; verdict = verdict-is; stands = next-stands })
 
-    over : Ruled s g past f (onLink g q f link)
+    over : Ruled s g past f (byLink g q f link)
     over = split (eqb (portCode link n (f .port)) 0) (λ m. over-policed (eqb-true _ _ m)) (λ m. over-refused (eqb-false _ _ m))
 
   pub one-call : Ruled s g past f (called g q f)
@@ -266,7 +266,7 @@ starts s r fresh =
     }
 
 -- ---- a list of calls on them
-abbrev pub verdictsBy : List ℕ → Machine (List Call) Call Told
+abbrev pub verdictsBy : List ℕ → Machine (List Call) Call Report
 verdictsBy s = byCalls (verdict-for s)
 
 module _ (s : List ℕ) (r : Runs) (fresh : Fresh s r) (h : List Call) where
@@ -279,12 +279,12 @@ module _ (s : List ℕ) (r : Runs) (fresh : Fresh s r) (h : List Call) where
   each-verdict : Simulates (callsOn g) (verdictsBy s) (λ w. w) (Stands s g) h
   each-verdict = record { each = λ f _ past q st. let o = one-call s g (tables s r fresh) past q st f in (o .verdict, o .stands) }
 
-  pub history-verdicts : answers g (stateIn r) h ≡ History.answers (verdictsBy s) [] h
+  pub history-verdicts : callAnswers g (stateIn r) h ≡ History.answers (verdictsBy s) [] h
   history-verdicts = same-answers h each-verdict [] (stateIn r) (starts s r fresh)
 
-  pub history-stands : Stands s g (reverse h) (final g (stateIn r) h)
+  pub history-stands : Stands s g (reverse h) (finalState g (stateIn r) h)
   history-stands =
-      subst (λ (past : List Call). Stands s g past (final g (stateIn r) h)) (final-calls (ruleCode s) h [])
+      subst (λ (past : List Call). Stands s g past (finalState g (stateIn r) h)) (final-calls (ruleCode s) h [])
       (simulated h each-code [] (stateIn r) (starts s r fresh) .1)
 
 pub rule-of-fresh-tables : RuleOfFreshTables

@@ -4,7 +4,7 @@ use mathlib.Core.Bool.{true}
 use mathlib.Core.List.{List}
 use mathlib.Core.Path.{_≡_, refl, sym, ap, _∙_}
 use lib.ListN.{length}
-use Rattle.terms.specs.Terms.{inLimits, capacity}
+use Rattle.terms.specs.Terms.{termsGood, capacity}
 use Rattle.terms.specs.declared.Terms.{Terms}
 use Rattle.account.specs.Account.{accountOf, loaded}
 use Rattle.tables.specs.Rows.{Config, accountOctets, linkOctets, accountTable, linkTable, accountIn, linkIn}
@@ -27,7 +27,7 @@ pub record Tables (s : List ℕ) (g : Config) : Type 0 where
   pub link-room : linkOctets * readImage s .settings .links ≤ length (g .links)
   pub terms : (i : ℕ) → i < readImage s .settings .accounts → accountIn (accountTable (g .accounts)) i ≡ imageTerms s i
   pub link : (j : ℕ) → j < readImage s .settings .links → linkIn (linkTable (g .links)) j ≡ imageLink s j
-  pub limits : (i : ℕ) → i < readImage s .settings .accounts → inLimits (imageTerms s i) ≡ true
+  pub limits : (i : ℕ) → i < readImage s .settings .accounts → termsGood (imageTerms s i) ≡ true
   pub rules : (j : ℕ) → j < readImage s .settings .links
       → linkSound (imageLink s j) (readImage s .settings .accounts) (imageTerms s (imageLink s j .account) .smax) ≡ true
 
@@ -47,9 +47,9 @@ module _ (s : List ℕ) (r : Runs) (f : Fresh s r) where
   pub long : Long n m (length (r .accounts)) (length (r .credits)) (length (r .lasts)) (length (r .links))
   long = held-long n m (length (r .accounts)) (length (r .credits)) (length (r .lasts)) (length (r .links)) (holds .long)
 
-  limits-of : (i : ℕ) → i < n → inLimits (imageTerms s i) ≡ true
+  limits-of : (i : ℕ) → i < n → termsGood (imageTerms s i) ≡ true
   unfolding accountGood
-  limits-of i h = ap inLimits (sym (holds .accounts i h)) ∙ sound .accounts i h
+  limits-of i h = ap termsGood (sym (holds .accounts i h)) ∙ sound .accounts i h
 
   -- the row's rules are about its own values and its account's Smax
   rules-of : (j : ℕ) → j < m → linkSound (imageLink s j) n (imageTerms s (imageLink s j .account) .smax) ≡ true

@@ -17,12 +17,12 @@ use Rattle.tables.specs.Rows.{Config, configFor}
 use Rattle.image_read.specs.Read.{readImage}
 use Rattle.image_load.specs.Loading.{Runs, loading}
 use Rattle.image_load.specs.Fresh.{Fresh}
-use Rattle.image_read.specs.declared.Loaded.{Loaded}
+use Rattle.image_read.specs.declared.ImageAnswer.{ImageAnswer}
 use Rattle.image_load.proofs.Fresh.{load-fresh}
-use Rattle.image_round_trip.specs.Trips.{loadedTables}
+use Rattle.image_round_trip.specs.RoundTrips.{loadedTables}
 use Rattle.switch.specs.Call.{Call, called}
 use Rattle.filter.proofs.Filter.{frame-code-high, port-code-high}
-use Rattle.demands.specs.History.{answers, final, codes, configIn, stateIn}
+use Rattle.demands.specs.History.{callAnswers, finalState, callCodes, configIn, stateIn}
 use Rattle.demands.specs.Rule.{imageTerms, imageLink, linkRow, filterCode, reachedIn, accountNamed, ruleCode, ruleOfCalls}
 use Rattle.demands.specs.Demand3.{RuleOfHistory, RuleInWords, OthersInWords, TenNever}
 use Rattle.demands.proofs.Tables.{tables}
@@ -37,18 +37,18 @@ module _ (s : List ℕ) (r : Runs) (z : loading s r .answer .code ≡ 0) where
   -- what loading answered is what reading answers
   pub loaded-config : loadedTables s r ≡ configIn s (loading s r .runs)
   loaded-config =
-      ap (λ (q : Loaded). configFor (q .settings) (loading s r .runs .accounts) (loading s r .runs .links)) (load-fresh s r z .0)
+      ap (λ (q : ImageAnswer). configFor (q .settings) (loading s r .runs .accounts) (loading s r .runs .links)) (load-fresh s r z .0)
 
 pub rule-of-history : RuleOfHistory
 rule-of-history s r z h =
-    ap (λ (g : Config). codes (answers g (stateIn (loading s r .runs)) h)) (loaded-config s r z)
+    ap (λ (g : Config). callCodes (callAnswers g (stateIn (loading s r .runs)) h)) (loaded-config s r z)
     ∙ rule-of-fresh-tables s (loading s r .runs) (loaded-fresh s r z) h
 
 -- ---- in words
 next-call : (s : List ℕ) (r : Runs) → Fresh s r → (before : List Call) (f : Call)
-    → Ruled s (configIn s r) (reverse before) f (called (configIn s r) (final (configIn s r) (stateIn r) before) f)
+    → Ruled s (configIn s r) (reverse before) f (called (configIn s r) (finalState (configIn s r) (stateIn r) before) f)
 next-call s r fresh before f =
-    one-call s (configIn s r) (tables s r fresh) (reverse before) (final (configIn s r) (stateIn r) before)
+    one-call s (configIn s r) (tables s r fresh) (reverse before) (finalState (configIn s r) (stateIn r) before)
     (history-stands s r fresh before) f
 
 code-arrived : (s : List ℕ) (past : List Call) (f : Call) → filterCode s f ≡ 0
@@ -60,7 +60,7 @@ pub rule-in-words : RuleInWords
 rule-in-words s r fresh before f z h =
     let a : ℕ = accountNamed s (linkRow s f) in
     let w = in-words (imageTerms s a) (reachedIn s (reverse before) a) (length (f .octets)) (f .time) h
-    (called (configIn s r) (final (configIn s r) (stateIn r) before) f .says .code)
+    (called (configIn s r) (finalState (configIn s r) (stateIn r) before) f .says .code)
     (next-call s r fresh before f .code ∙ code-arrived s (reverse before) f z) in
     record { exactly = w .0; otherwise = w .1 }
 

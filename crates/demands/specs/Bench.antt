@@ -10,10 +10,10 @@ use Rattle.terms.specs.Terms.{byteMode, frameMode}
 use Rattle.account_rule.specs.Bench.{Case, termsP, byteCases, frameCases}
 use Rattle.image_read.specs.Bench.{imageP, answerP}
 use Rattle.image_load.specs.Loading.{Runs, longEnough, loading}
-use Rattle.image_round_trip.specs.Trips.{loadedTables}
-use Rattle.switch.specs.Verdict.{Told, withMask}
+use Rattle.image_round_trip.specs.RoundTrips.{loadedTables}
+use Rattle.switch.specs.Verdict.{Report, withMask}
 use Rattle.switch.specs.Call.{State, Call, callOf}
-use Rattle.demands.specs.History.{answers, final, stateIn}
+use Rattle.demands.specs.History.{callAnswers, finalState, stateIn}
 use Rattle.demands.specs.Rule.{imageTerms}
 
 -- image P with frame mode in its account: octet 16 is 1
@@ -25,19 +25,19 @@ abbrev pub sent : ℕ → ℕ → Call
 sent n t = callOf (3 ∷ 0 ∷ 0 ∷ 0 ∷ 0 ∷ 7 ∷ replicate (n - 6) 0) 2 t
 
 abbrev pub calls : List Case → List Call
-calls = map (λ c. sent (c .arrival .octets) (c .arrival .time))
+calls = map (λ c. sent (c .step .octets) (c .step .time))
 
--- what a case is to tell, with link 7's mask, port 3, where it is forwarded
-abbrev pub verdicts : List Case → List Told
-verdicts = map (λ c. withMask 8 (c .tells))
+-- what a case is to report, with link 7's mask, port 3, where it is forwarded
+abbrev pub verdicts : List Case → List Report
+verdicts = map (λ c. withMask 8 (c .reports))
 
 -- the answers of these cases from an image loaded into runs
-abbrev pub replied : List ℕ → Runs → List Case → List Told
-replied s r cases = answers (loadedTables s r) (stateIn (loading s r .runs)) (calls cases)
+abbrev pub caseAnswers : List ℕ → Runs → List Case → List Report
+caseAnswers s r cases = callAnswers (loadedTables s r) (stateIn (loading s r .runs)) (calls cases)
 
 -- and what they leave
-abbrev pub left : List ℕ → Runs → List Case → State
-left s r cases = final (loadedTables s r) (stateIn (loading s r .runs)) (calls cases)
+abbrev pub stateAfter : List ℕ → Runs → List Case → State
+stateAfter s r cases = finalState (loadedTables s r) (stateIn (loading s r .runs)) (calls cases)
 
 -- what loading answers, and the account that image P names; case 1; cases 2 to 10, and what the account then holds; case 11. From runs
 -- of any content, long enough for one account and one link
@@ -48,7 +48,7 @@ CallBenchTable =
     × (imageTerms imageP 0 ≡ termsP byteMode)
     × (imageTerms frameImageP 0 ≡ termsP frameMode)
     × (getD (loading imageP r .runs .credits) 0 0 ≡ 300000)
-    × (replied imageP r byteCases ≡ verdicts byteCases)
-    × (getD (left imageP r byteCases .credits) 0 0 ≡ 100000)
-    × (getD (left imageP r byteCases .lasts) 0 0 ≡ 2 ^ 64 - 1)
-    × (replied frameImageP r frameCases ≡ verdicts frameCases)
+    × (caseAnswers imageP r byteCases ≡ verdicts byteCases)
+    × (getD (stateAfter imageP r byteCases .credits) 0 0 ≡ 100000)
+    × (getD (stateAfter imageP r byteCases .lasts) 0 0 ≡ 2 ^ 64 - 1)
+    × (caseAnswers frameImageP r frameCases ≡ verdicts frameCases)

@@ -2,7 +2,7 @@
 -- are about; here they are gathered. All are for any input whatsoever. Proved in proofs/Demands.antt. The receiving end's are gathered
 -- in receptions.
 use Rattle.frame.specs.Claims.{ReadingAnswers, ReadingRefused}
-use Rattle.account.specs.Claims.{StepAnswers, RefusedStepKeeps, RefusedStepTells, ToldApart, ShortStepTopsUp}
+use Rattle.account.specs.Claims.{StepAnswers, RefusedStepKeeps, RefusedStepReports, StepsApart, ShortStepTopsUp}
 use Rattle.image_read.specs.Claims.{ReadCodes}
 use Rattle.image_load.specs.Claims.{LoadCodes, RefusedLoadKeeps, OffsetsInside}
 use Rattle.image_write.specs.Claims.{WriteCodes, RefusedWriteKeeps}
@@ -31,8 +31,8 @@ pub record RefusalsKeep : Type 0 where
 pub record Demand1 : Type 0 where
   pub answers : Answers
   pub refusals-keep : RefusalsKeep
-  -- no two answers tell the same; what a refused step tells; where the offset of an image's answer lies
+  -- no two answers report the same; what a refused step reports; where the offset of an image's answer lies
   pub verdicts-apart : VerdictsApart
-  pub steps-apart : ToldApart
-  pub step-tells : RefusedStepTells
+  pub steps-apart : StepsApart
+  pub step-reports : RefusedStepReports
   pub offsets : OffsetsInside

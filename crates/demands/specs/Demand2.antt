@@ -6,7 +6,7 @@ use Rattle.rows.specs.Claims.{RowsInUse}
 use Rattle.fields.specs.Claims.{FieldReadsBack, FieldSpelled, FieldFigures}
 use Rattle.frame.specs.Claims.{LengthLimits, PayloadLength}
 use Rattle.terms.specs.Claims.{FormulasByMode, CapacityLargest, CostLargest, TermsLimits, CheckedMethods}
-use Rattle.account.specs.Claims.{ValidLimits, ForwardedStepTakesCost, StepIsTopUpAndDebit, RefusedMethodsRest}
+use Rattle.account.specs.Claims.{SoundLimits, ForwardedStepTakesCost, StepIsTopUpAndDebit, RefusedMethodsIdle}
 use Rattle.account_rule.specs.Bench.{BenchTable}
 use Rattle.tables.specs.Claims.{FindsFirst, FindsNone, SizesWithinSmax, LinkRefused, LinkAccepted}
 use Rattle.image_layout.specs.Claims.{ImageFigures, ConstantLimits}
@@ -15,7 +15,7 @@ use Rattle.image_read.specs.Claims.{AcceptedEnds, ReadFieldByField, PrefixRead}
 use Rattle.image_load.specs.Claims.{LoadRefuses, RowsBeyondKept, PrefixLoad}
 use Rattle.image_load.specs.Fresh.{LoadAccepts, LoadFresh, FreshHolds, FreshSound}
 use Rattle.image_write.specs.Claims.{WriteRefuses, WriteAccepts, WriteOffsets, WritesImage, ImageLength, FirstBadConstant, FirstBadAccount, FirstBadLink}
-use Rattle.image_round_trip.specs.Trips.{AcceptedIsImage, ImageIsAccepted, WriteRead, ReadWrite}
+use Rattle.image_round_trip.specs.RoundTrips.{AcceptedIsImage, ImageIsAccepted, WriteRead, ReadWrite}
 use Rattle.switch.specs.Claims.{CodesInOrder, CallEffects, LengthAlone, PortsBeyond, RowsBeyondUnread}
 use Rattle.demands.specs.Bench.{CallBenchTable}
 
@@ -38,7 +38,7 @@ pub record Verdicts : Type 0 where
   pub finds-none : FindsNone
   pub takes-cost : ForwardedStepTakesCost
   pub top-up-and-debit : StepIsTopUpAndDebit
-  pub methods-rest : RefusedMethodsRest
+  pub methods-idle : RefusedMethodsIdle
 
 -- reading, loading and writing an image ("The configuration image")
 pub record Images : Type 0 where
@@ -67,7 +67,7 @@ pub record Figures : Type 0 where
   pub payload : PayloadLength
   pub terms : TermsLimits
   pub checked : CheckedMethods
-  pub valid : ValidLimits
+  pub sound : SoundLimits
   pub formulas : FormulasByMode
   pub capacity : CapacityLargest
   pub cost : CostLargest

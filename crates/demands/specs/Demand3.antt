@@ -16,9 +16,9 @@ use Rattle.image_read.specs.Read.{readImage}
 use Rattle.image_read.specs.Bench.{imageP, answerP}
 use Rattle.image_load.specs.Loading.{Runs, loading}
 use Rattle.image_load.specs.Fresh.{Fresh}
-use Rattle.image_round_trip.specs.Trips.{loadedTables}
+use Rattle.image_round_trip.specs.RoundTrips.{loadedTables}
 use Rattle.switch.specs.Call.{State, Call, callOf, called}
-use Rattle.demands.specs.History.{answers, final, codes, configIn, stateIn}
+use Rattle.demands.specs.History.{callAnswers, finalState, callCodes, configIn, stateIn}
 use Rattle.demands.specs.Rule.{imageTerms, linkRow, accountNamed, filterCode, meant, reachedIn, ruleCodes}
 
 -- ---- first half
@@ -28,11 +28,11 @@ use Rattle.demands.specs.Rule.{imageTerms, linkRow, accountNamed, filter
 abbrev pub RuleOfHistory : Type 0
 RuleOfHistory =
     (s : List ℕ) (r : Runs) → loading s r .answer .code ≡ 0 → (h : List Call)
-    → codes (answers (loadedTables s r) (stateIn (loading s r .runs)) h) ≡ ruleCodes s h
+    → callCodes (callAnswers (loadedTables s r) (stateIn (loading s r .runs)) h) ≡ ruleCodes s h
 
 -- the same of any runs that begin with what loading writes, whatever lies beyond and however long they are
 abbrev pub RuleOfFreshTables : Type 0
-RuleOfFreshTables = (s : List ℕ) (r : Runs) → Fresh s r → (h : List Call) → codes (answers (configIn s r) (stateIn r) h) ≡ ruleCodes s h
+RuleOfFreshTables = (s : List ℕ) (r : Runs) → Fresh s r → (h : List Call) → callCodes (callAnswers (configIn s r) (stateIn r) h) ≡ ruleCodes s h
 
 -- in words, for a frame f on account a after a past, and the code that it got: 0 exactly where, from itself and from each frame that
 -- reached the account earlier, the costs forwarded since and its own are within the allowance; else 9
@@ -46,19 +46,19 @@ abbrev pub RuleInWords : Type 0
 RuleInWords =
     (s : List ℕ) (r : Runs) → Fresh s r → (before : List Call) (f : Call) → filterCode s f ≡ 0
     → lastTime (reachedIn s (reverse before) (accountNamed s (linkRow s f))) ≤ f .time
-    → Judged s (reverse before) f (accountNamed s (linkRow s f)) (called (configIn s r) (final (configIn s r) (stateIn r) before) f .says .code)
+    → Judged s (reverse before) f (accountNamed s (linkRow s f)) (called (configIn s r) (finalState (configIn s r) (stateIn r) before) f .says .code)
 
 -- and of every other frame: the filter's code, or 8 where a frame that reached the account is later
 abbrev pub OthersInWords : Type 0
 OthersInWords =
     (s : List ℕ) (r : Runs) → Fresh s r → (before : List Call) (f : Call)
-    → ((filterCode s f ≡ 0 → ⊥) → called (configIn s r) (final (configIn s r) (stateIn r) before) f .says .code ≡ filterCode s f)
+    → ((filterCode s f ≡ 0 → ⊥) → called (configIn s r) (finalState (configIn s r) (stateIn r) before) f .says .code ≡ filterCode s f)
     × (filterCode s f ≡ 0 → f .time < lastTime (reachedIn s (reverse before) (accountNamed s (linkRow s f)))
-    → called (configIn s r) (final (configIn s r) (stateIn r) before) f .says .code ≡ 8)
+    → called (configIn s r) (finalState (configIn s r) (stateIn r) before) f .says .code ≡ 8)
 
 -- 10 never: every code of a history is one from 0 to 9
 abbrev pub TenNever : Type 0
-TenNever = (s : List ℕ) (r : Runs) → Fresh s r → (h : List Call) (c : ℕ) → List·Memᴰ c (codes (answers (configIn s r) (stateIn r) h)) → c ≤ 9
+TenNever = (s : List ℕ) (r : Runs) → Fresh s r → (h : List Call) (c : ℕ) → List·Memᴰ c (callCodes (callAnswers (configIn s r) (stateIn r) h)) → c ≤ 9
 
 -- ---- second half
 
@@ -69,9 +69,9 @@ SameMeant s a h h′ = only (meant s a) h ≡ only (meant s a) h′
 -- what two histories, each from its own tables, then share: the answers to these calls, code, mask and credit; and what account a holds
 -- in the end
 pub record SameAnswers (s : List ℕ) (a : ℕ) (g : Config) (t : State) (h : List Call) (g′ : Config) (t′ : State) (h′ : List Call) : Type 0 where
-  pub verdicts : answersTo (meant s a) h (answers g t h) ≡ answersTo (meant s a) h′ (answers g′ t′ h′)
-  pub credit : getD (final g t h .credits) a 0 ≡ getD (final g′ t′ h′ .credits) a 0
-  pub last : getD (final g t h .lasts) a 0 ≡ getD (final g′ t′ h′ .lasts) a 0
+  pub verdicts : answersTo (meant s a) h (callAnswers g t h) ≡ answersTo (meant s a) h′ (callAnswers g′ t′ h′)
+  pub credit : getD (finalState g t h .credits) a 0 ≡ getD (finalState g′ t′ h′ .credits) a 0
+  pub last : getD (finalState g t h .lasts) a 0 ≡ getD (finalState g′ t′ h′ .lasts) a 0
 
 -- one image loaded twice, into any runs
 abbrev pub Isolation : Type 0

@@ -11,7 +11,7 @@ use Rattle.lists.specs.Lists.{only}
 use Rattle.frame.specs.Frame.{linkNumber}
 use Rattle.terms.specs.declared.Terms.{Terms}
 use Rattle.account_rule.specs.Bucket.{Reached}
-use Rattle.account_rule.specs.Rule.{Arrival, ruleArrived, ruleOfAccount}
+use Rattle.account_rule.specs.Rule.{StepCall, ruleArrived, ruleOfAccount}
 use Rattle.rows.specs.Rows.{foundIn}
 use Rattle.tables.specs.Rows.{accountIn, linkIn}
 use Rattle.rows.specs.declared.Found.{Found}
@@ -61,13 +61,13 @@ abbrev pub passing : List ℕ → ℕ → Call → Bool
 passing s a f = meant s a f && eqb (filterCode s f) 0
 
 -- what the account sees of it
-abbrev pub arrivalOf : Call → Arrival
-arrivalOf f = record { octets = length (f .octets); time = f .time }
+abbrev pub stepCallOf : Call → StepCall
+stepCallOf f = record { octets = length (f .octets); time = f .time }
 
--- of the frames that pass to it in a past, the rule for one account leaves out the late ones, and tells which of the others were
+-- of the frames that pass to it in a past, the rule for one account leaves out the late ones, and reports which of the others were
 -- forwarded. Both lists have the newest first
 unfoldable pub reachedIn : List ℕ → List Call → ℕ → List Reached
-reachedIn s past a = leftBy (ruleOfAccount (imageTerms s a)) [] (map arrivalOf (only (passing s a) past))
+reachedIn s past a = leftBy (ruleOfAccount (imageTerms s a)) [] (map stepCallOf (only (passing s a) past))
 
 -- ---- the code of a frame after a past. Its account, which is asked only where its number has a link
 abbrev pub accountNamed : List ℕ → Found → ℕ

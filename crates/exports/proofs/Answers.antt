@@ -6,17 +6,17 @@ use mathlib.Core.Path.{_≡_, ap, _∙_}
 use lib.Dec.{leb}
 use borrow.Author.Tests.{eq-eqb, ne-eqb}
 use Rattle.lists.proofs.Tests.{split}
-use Rattle.account.specs.Account.{holding, valid, toppedUp}
+use Rattle.account.specs.Account.{holding, accountSound, toppedUp}
 use Rattle.account.specs.Step.{Stepped, policed}
 use Rattle.account.specs.declared.Account.{Account}
 use Rattle.account.proofs.Step.{policed-keeps}
-use Rattle.image_read.specs.declared.Loaded.{Loaded}
+use Rattle.image_read.specs.declared.ImageAnswer.{ImageAnswer}
 use Rattle.image_load.specs.Loading.{Runs, Loading, loadingOf}
-use Rattle.switch.specs.Verdict.{Told}
+use Rattle.switch.specs.Verdict.{Report}
 use Rattle.switch.specs.Call.{State, After, afterOf}
 use Rattle.exports.specs.Numbers.{stepSays, stepDone, stepDoneOf, callSays, callDone, callDoneOf, networkOf, receptionDone, receptionDoneOf}
 use Rattle.receive.specs.Lent.{arrivalOf}
-use Rattle.receive.specs.Receive.{told as receptionTold, afterOf as receivedOf, received}
+use Rattle.receive.specs.Receive.{receptionCode as receptionTold, receivedOf as receivedOf, received}
 use Rattle.receive.specs.declared.Network.{Network}
 use Rattle.receive.specs.declared.Network.the-variants.{A, B}
 use Rattle.receive.specs.declared.Reception.{Reception}
@@ -26,7 +26,7 @@ use Rattle.exports.specs.declared.calls.CallNumbers.{CallNumbers}
 -- a top-up changes the credit and the last time alone
 pub topped-keeps : (a : Account) (t : ℕ) → holding a (toppedUp a t .credit) (toppedUp a t .last) ≡ toppedUp a t
 unfolding toppedUp
-topped-keeps a t = split (valid a && leb (a .last) t) (λ e. simp e) (λ e. simp e)
+topped-keeps a t = split (accountSound a && leb (a .last) t) (λ e. simp e) (λ e. simp e)
 
 -- an account e, read as d: brought to a time, and policed
 module _ (d e : Account) (p : d ≡ e) where
@@ -40,11 +40,11 @@ module _ (d e : Account) (p : d ≡ e) where
       ∙ ap (λ (x : Stepped). stepDone (stepSays (x .says)) (holding e (x .account .credit) (x .account .last))) (r ∙ ap (λ (x : Account). policed x n t) p)
       ∙ ap (stepDone (stepSays (policed e n t .says))) (policed-keeps e n t)
 
-pub call-done : (n : CallNumbers) (w : Told) (s : State) (r : After) → n ≡ callSays w → afterOf w s ≡ r → callDone n s ≡ callDoneOf r
+pub call-done : (n : CallNumbers) (w : Report) (s : State) (r : After) → n ≡ callSays w → afterOf w s ≡ r → callDone n s ≡ callDoneOf r
 call-done n w s r p q = ap (λ m. callDone m s) p ∙ ap callDoneOf q
 
-pub load-done : (q a : Loaded) (r : Runs) (l : Loading) → q ≡ a → loadingOf a r ≡ l → loadingOf q r ≡ l
-load-done q a r l e f = ap (λ (x : Loaded). loadingOf x r) e ∙ f
+pub load-done : (q a : ImageAnswer) (r : Runs) (l : Loading) → q ≡ a → loadingOf a r ≡ l → loadingOf q r ≡ l
+load-done q a r l e f = ap (λ (x : ImageAnswer). loadingOf x r) e ∙ f
 
 -- a network by its number
 pub network-a : (n : ℕ) → n ≡ 0 → A ≡ networkOf n

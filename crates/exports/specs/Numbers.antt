@@ -9,12 +9,12 @@ use Rattle.lists.specs.Choice.{if_then_else_}
 use Rattle.frame.specs.declared.Header.{Header}
 use Rattle.terms.specs.Terms.{termsWith}
 use Rattle.account.specs.Account.{accountOf}
-use Rattle.account.specs.Step.{Told as StepTold, Stepped}
+use Rattle.account.specs.Step.{StepReport as StepTold, Stepped}
 use Rattle.account.specs.declared.Account.{Account}
-use Rattle.image_read.specs.declared.Loaded.{Loaded}
-use Rattle.switch.specs.Verdict.{Told}
+use Rattle.image_read.specs.declared.ImageAnswer.{ImageAnswer}
+use Rattle.switch.specs.Verdict.{Report}
 use Rattle.switch.specs.Call.{State, After}
-use Rattle.receive.specs.Receive.{told, After as Received}
+use Rattle.receive.specs.Receive.{receptionCode, Received as Received}
 use Rattle.receive.specs.declared.Network.{Network}
 use Rattle.receive.specs.declared.Network.the-variants.{A, B}
 use Rattle.exports.specs.declared.accounts.StepNumbers.{StepNumbers}
@@ -33,7 +33,7 @@ abbrev pub accountWith : ℕ → ℕ → ℕ → ℕ → ℕ → ℕ → Account
 accountWith smax k jitter mode credit last =
     accountOf (termsWith smax k jitter mode) credit last
 
--- ---- the policing step ("Credit, in whole units"): its code, the credit that it tells, and the account after it
+-- ---- the policing step ("Credit, in whole units"): its code, the credit that it reports, and the account after it
 abbrev pub stepNumbers : ℕ → ℕ → StepNumbers
 stepNumbers code credit = record { code = code; credit = credit }
 
@@ -50,11 +50,11 @@ stepDone n a = record { says = n; account = a }
 abbrev pub stepDoneOf : Stepped → StepDone
 stepDoneOf q = stepDone (stepSays (q .says)) (q .account)
 
--- ---- the frame call ("Codes, in order of checking"): its code, the mask and the credit that it tells, and what it leaves
+-- ---- the frame call ("Codes, in order of checking"): its code, the mask and the credit that it reports, and what it leaves
 abbrev pub callNumbers : ℕ → ℕ → ℕ → CallNumbers
 callNumbers code mask credit = record { code = code; mask = mask; credit = credit }
 
-abbrev pub callSays : Told → CallNumbers
+abbrev pub callSays : Report → CallNumbers
 callSays w = callNumbers (w .code) (orZero (w .mask)) (orZero (w .credit))
 
 pub record CallDone : Type 0 where
@@ -68,20 +68,20 @@ abbrev pub callDoneOf : After → CallDone
 callDoneOf r = callDone (callSays (r .says)) (r .state)
 
 -- ---- reading and loading an image ("The configuration image"): code, offset, constant field, counts of accounts and links
-abbrev pub loadedWith : ℕ → ℕ → ℕ → ℕ → ℕ → Loaded
+abbrev pub loadedWith : ℕ → ℕ → ℕ → ℕ → ℕ → ImageAnswer
 loadedWith code offset constant accounts links =
     record { code = code; offset = offset; settings = settingsOf constant accounts links }
 
--- ---- the receiving end's call (document 02, Q-1): the number of its answer, and the records that it leaves
+-- ---- the receiving end's call (document 02, Q-1): the number of its answer, and the memory that it leaves
 abbrev pub networkOf : ℕ → Network
 networkOf n = if eqb n 0 then A else B
 
 pub record ReceptionDone : Type 0 where
   pub number : ℕ
-  pub records : List ℕ
+  pub memory : List ℕ
 
 abbrev pub receptionDone : ℕ → List ℕ → ReceptionDone
-receptionDone n r = record { number = n; records = r }
+receptionDone n r = record { number = n; memory = r }
 
 abbrev pub receptionDoneOf : Received → ReceptionDone
-receptionDoneOf z = receptionDone (told (z .says)) (z .records)
+receptionDoneOf z = receptionDone (receptionCode (z .says)) (z .memory)

@@ -1,7 +1,7 @@
 // An account, value by value: Smax, k, jitter, mode, credit and last time.
 ghost use mathlib.Core.Path.{_≡_};
 ghost use Rattle.account.specs.Account.{capacityOf, costOf, toppedUp};
-ghost use Rattle.account.specs.Step.{told, policed};
+ghost use Rattle.account.specs.Step.{stepReported, policed};
 ghost use Rattle.exports.specs.Numbers.{accountWith, stepNumbers, stepSays, stepDone, stepDoneOf};
 use account::Account;
 use account::Outcome;
@@ -30,7 +30,7 @@ fn account_of(smax: u16, k: u8, jitter: u16, mode: u8, credit: u32, last: u64) -
 
 // The numbers of a policing step's answer.
 fn numbers(outcome: Outcome) -> StepNumbers
-    ensures { λ r. ⌜ r ≡ stepSays (told outcome) ⌝ }
+    ensures { λ r. ⌜ r ≡ stepSays (stepReported outcome) ⌝ }
 {
     match outcome {
         Outcome::Forwarded(credit) => StepNumbers { code: 0, credit },
@@ -85,7 +85,7 @@ pub extern "C" fn ashthulgo_top_up(
     *last = next.last;
 }
 
-// The policing step: the account's credit and last time are changed in place; `told` is the credit that the answer
+// The policing step: the account's credit and last time are changed in place; `reported` is the credit that the answer
 // carries.
 #[no_mangle]
 pub extern "C" fn ashthulgo_police(
@@ -97,9 +97,9 @@ pub extern "C" fn ashthulgo_police(
     last: &mut u64,
     octets: usize,
     time: u64,
-    told: &mut u32,
+    reported: &mut u32,
 ) -> u8
-    ensures { λ r. ⌜ stepDone (stepNumbers r (now (told .exit))) (accountWith smax k jitter mode (now (credit .exit)) (now (last .exit)))
+    ensures { λ r. ⌜ stepDone (stepNumbers r (now (reported .exit))) (accountWith smax k jitter mode (now (credit .exit)) (now (last .exit)))
         ≡ stepDoneOf (policed (accountWith smax k jitter mode (now (credit .entry)) (now (last .entry))) octets time) ⌝ }
 {
     let account = account_of(smax, k, jitter, mode, *credit, *last);
@@ -109,6 +109,6 @@ pub extern "C" fn ashthulgo_police(
     let said = numbers(outcome);
     *credit = next.credit;
     *last = next.last;
-    *told = said.credit;
+    *reported = said.credit;
     said.code
 }

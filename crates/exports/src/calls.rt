@@ -1,7 +1,7 @@
 // The frame call.
 ghost use mathlib.Core.Path.{_≡_};
 ghost use Rattle.tables.specs.Rows.{configOf};
-ghost use Rattle.switch.specs.Verdict.{told};
+ghost use Rattle.switch.specs.Verdict.{reported};
 ghost use Rattle.switch.specs.Call.{stateOf, callOf, called};
 ghost use Rattle.exports.specs.Numbers.{callNumbers, callSays, callDone, callDoneOf};
 use switch::Ingress;
@@ -17,7 +17,7 @@ struct CallNumbers {
 
 // The numbers of a verdict.
 fn numbers(verdict: Verdict) -> CallNumbers
-    ensures { λ r. ⌜ r ≡ callSays (told verdict) ⌝ }
+    ensures { λ r. ⌜ r ≡ callSays (reported verdict) ⌝ }
 {
     match verdict {
         Verdict::Forwarded { mask, credit } => CallNumbers {

@@ -5,11 +5,11 @@ ghost use Rattle.image_read.specs.Read.{readImage};
 ghost use Rattle.image_load.specs.Loading.{runsOf, loadingOf, loading};
 ghost use Rattle.image_write.specs.Writing.{writtenOf, writingOf, writing};
 ghost use Rattle.exports.specs.Numbers.{loadedWith};
-use image_read::Loaded;
+use image_read::ImageAnswer;
 
-// An answer told in numbers.
-fn tell(
-    answer: Loaded,
+// An answer reported in numbers.
+fn report(
+    answer: ImageAnswer,
     offset: &mut usize,
     constant: &mut u32,
     account_count: &mut usize,
@@ -37,7 +37,7 @@ pub extern "C" fn ashthulgo_check(
         ≡ readImage (now (image .entry)) ⌝ }
 {
     let answer = image_read::check(image);
-    tell(answer, offset, constant, account_count, link_count)
+    report(answer, offset, constant, account_count, link_count)
 }
 
 // Loads an image into lent tables.
@@ -60,7 +60,7 @@ pub extern "C" fn ashthulgo_load(
         (runsOf (now (accounts .entry)) (now (credits .entry)) (now (lasts .entry)) (now (links .entry))) ⌝ }
 {
     let answer = image_load::load(image, accounts, credits, lasts, links);
-    tell(answer, offset, constant, account_count, link_count)
+    report(answer, offset, constant, account_count, link_count)
 }
 
 // Writes the image of the first rows of two tables.

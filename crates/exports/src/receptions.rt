@@ -19,20 +19,20 @@ pub extern "C" fn ashthulgo_receive(
     link: u16,
     network: u8,
     number: u8,
-    stamp: u64,
+    time: u64,
     rows: &[u8],
-    records: &mut [u64],
+    memory: &mut [u64],
 ) -> u8
-    ensures { λ r. ⌜ receptionDone r (now (records .exit))
-        ≡ receptionDoneOf (received (now (rows .entry)) (now (records .entry)) (arrivalOf link (networkOf network) number stamp)) ⌝ }
+    ensures { λ r. ⌜ receptionDone r (now (memory .exit))
+        ≡ receptionDoneOf (received (now (rows .entry)) (now (memory .entry)) (arrivalOf link (networkOf network) number time)) ⌝ }
 {
     let side = network_of(network);
     let frame = Arrival {
         link,
         network: side,
         number,
-        stamp,
+        time,
     };
-    let answer = receive::receive(frame, rows, records);
+    let answer = receive::receive(frame, rows, memory);
     answer.number()
 }

@@ -101,7 +101,7 @@ module _ (tag : ℕ) (bytes : List ℕ) where
       let a : length (tag ∷ octetsOf 2 (length bytes)) + k ≡ tagAndLength + k = omega arith in
       ap (λ (i : ℕ). getD ((tag ∷ octetsOf 2 (length bytes)) ++ bytes) i 0) (sym a) ∙ getD-append-add (tag ∷ octetsOf 2 (length bytes)) bytes k 0
 
--- a field that stands at a place: its tag, its length and its data are read there
+-- a field that stands at an offset: its tag, its length and its data are read there
 module _ (s : List ℕ) (at w tag : ℕ) (bytes : List ℕ) (l : length bytes ≡ w) (e : octetsAt (tagAndLength + w) s at ≡ fieldOf tag bytes) where
   octet : (k : ℕ) → k < tagAndLength + w → getD s (at + k) 0 ≡ getD (fieldOf tag bytes) k 0
   octet k h = sym (getD-part (tagAndLength + w) s at k h) ∙ ap (λ (xs : List ℕ). getD xs k 0) e

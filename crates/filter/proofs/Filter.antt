@@ -10,15 +10,15 @@ use borrow.Author.Tests.{lt-ltb, le-ltb, ltb-false, eq-eqb, ne-eqb, eqb-true, eq
 use Rattle.lists.proofs.Tests.{split}
 use Rattle.frame.specs.Frame.{lengthCode, constantField, linkNumber}
 use Rattle.frame.proofs.Frame.{by-length}
-use Rattle.tables.specs.Rows.{found, soughtIn}
+use Rattle.tables.specs.Rows.{found, lookupIn}
 use Rattle.rows.specs.declared.Found.{Found}
 use Rattle.rows.specs.declared.Found.the-variants.{At, Nowhere}
 use Rattle.tables.specs.declared.Link.{Link}
-use Rattle.tables.specs.declared.Sought.{Sought}
-use Rattle.tables.specs.declared.Sought.the-variants.{Present, Absent}
+use Rattle.tables.specs.declared.Lookup.{Lookup}
+use Rattle.tables.specs.declared.Lookup.the-variants.{Present, Absent}
 use Rattle.filter.specs.Filter.{frameCode, portCode, routeTo, routed}
 use Rattle.filter.specs.declared.Route.{Route}
-use Rattle.filter.specs.declared.Route.the-variants.{Stopped, Over}
+use Rattle.filter.specs.declared.Route.the-variants.{Stopped, OnLink}
 
 -- ---- the frame alone, by the code h of its length
 module _ (constant : ℕ) (f : List ℕ) (h : ℕ) (e : h ≡ lengthCode (length f)) where
@@ -112,11 +112,11 @@ module _ (l : Link) (n port : ℕ) where
       (λ c. ltb-false _ _ c)
 
 -- ---- the route, by the link that the number leads to
-abbrev routeBy : Sought → Route
-routeBy (Present l) = Over l
+abbrev routeBy : Lookup → Route
+routeBy (Present l) = OnLink l
 routeBy Absent = Stopped 4
 
-route-by : (links : List ℕ) (d : Found) → routeBy (soughtIn links d) ≡ routeTo links d
+route-by : (links : List ℕ) (d : Found) → routeBy (lookupIn links d) ≡ routeTo links d
 route-by links (At j) = refl
 route-by links Nowhere = refl
 
@@ -131,12 +131,12 @@ module _ (f : List ℕ) (constant : ℕ) (links : List ℕ) (count h : ℕ) (e :
     unfolding routed
     route-row d q = simp (q, p, eq-eqb (frameCode constant f) 0 (sym e ∙ z))
 
-    module _ (w : Sought) (q : w ≡ soughtIn links (found links count x)) where
-      by-sought : routeBy w ≡ routed f constant links count
-      by-sought = ap routeBy q ∙ route-by links (found links count x) ∙ route-row (found links count x) refl
+    module _ (w : Lookup) (q : w ≡ lookupIn links (found links count x)) where
+      by-lookup : routeBy w ≡ routed f constant links count
+      by-lookup = ap routeBy q ∙ route-by links (found links count x) ∙ route-row (found links count x) refl
 
       pub route-unknown : w ≡ Absent → Stopped 4 ≡ routed f constant links count
-      route-unknown r = ap routeBy (sym r) ∙ by-sought
+      route-unknown r = ap routeBy (sym r) ∙ by-lookup
 
-      pub route-over : (l : Link) → w ≡ Present l → Over l ≡ routed f constant links count
-      route-over l r = ap routeBy (sym r) ∙ by-sought
+      pub route-link : (l : Link) → w ≡ Present l → OnLink l ≡ routed f constant links count
+      route-link l r = ap routeBy (sym r) ∙ by-lookup

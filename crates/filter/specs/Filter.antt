@@ -12,7 +12,7 @@ use Rattle.rows.specs.declared.Found.{Found}
 use Rattle.rows.specs.declared.Found.the-variants.{At, Nowhere}
 use Rattle.tables.specs.declared.Link.{Link}
 use Rattle.filter.specs.declared.Route.{Route}
-use Rattle.filter.specs.declared.Route.the-variants.{Stopped, Over}
+use Rattle.filter.specs.declared.Route.the-variants.{Stopped, OnLink}
 
 -- by the frame alone: the first of 1, 2 and 3 that fits, or 0
 unfoldable pub frameCode : ℕ → List ℕ → ℕ
@@ -32,7 +32,7 @@ portCode l n port =
 -- by the row that has the frame's number: 4 where there is none, else its link
 abbrev pub routeTo : List ℕ → Found → Route
 routeTo links Nowhere = Stopped 4
-routeTo links (At j) = Over (linkIn (linkTable links) j)
+routeTo links (At j) = OnLink (linkIn (linkTable links) j)
 
 -- what comes before the account: 1, 2 or 3, else 4 or the link of the first row in use that has the number
 unfoldable pub routed : List ℕ → ℕ → List ℕ → ℕ → Route

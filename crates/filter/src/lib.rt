@@ -3,7 +3,7 @@
 ghost use mathlib.Core.Path.{_≡_};
 ghost use Rattle.filter.specs.Filter.{frameCode, portCode, routed};
 use tables::Link;
-use tables::Sought;
+use tables::Lookup;
 
 // Codes 3, 4, 5, 6 and 7; 1 and 2 are frame's.
 const OTHER_CONSTANT: u8 = 3;
@@ -19,7 +19,7 @@ const TOO_LARGE: u8 = 7;
 // What is found before the account is looked at: a refusal's code, or the link.
 pub enum Route {
     Stopped(u8),
-    Over(Link),
+    OnLink(Link),
 }
 
 // The first of the codes 1, 2 and 3 that fits, or 0.
@@ -45,10 +45,10 @@ pub fn find_link(frame: &[u8], constant: u32, links: &[u8], count: usize) -> Rou
         return Route::Stopped(code);
     }
     let number = frame::link_number(frame);
-    let sought = tables::look_up(links, count, number);
-    match sought {
-        Sought::Absent => Route::Stopped(UNKNOWN_LINK),
-        Sought::Present(link) => Route::Over(link),
+    let lookup = tables::look_up(links, count, number);
+    match lookup {
+        Lookup::Absent => Route::Stopped(UNKNOWN_LINK),
+        Lookup::Present(link) => Route::OnLink(link),
     }
 }
 

@@ -11,7 +11,7 @@ use borrow.Author.Tests.{ltb-true, ltb-false, leb-true, leb-false, lt-ltb, le-lt
 use Rattle.lists.proofs.Tests.{split}
 use Rattle.frame.specs.Limits.{smallestFrame, largestFrame}
 use Rattle.frame.specs.declared.Header.{Header}
-use Rattle.frame.specs.Frame.{lengthCode, linkNumber, sequenceNumber, sequencePlace, headerOf, payloadStart, payloadOf, payloadPlace}
+use Rattle.frame.specs.Frame.{lengthCode, linkNumber, sequenceNumber, sequenceOffset, headerOf, payloadStart, payloadOf, payloadPlace}
 
 -- ---- the code of a length
 module _ (n : ℕ) where
@@ -79,13 +79,13 @@ module _ (f : List ℕ) (r : ℕ) (e : r ≡ lengthCode (length f)) where
       (simp k, simp (k, zero-add))
 
   pub payload-read : (p : ℕ × ℕ) → r ≡ 0
-      → (take (sequencePlace f - payloadStart) (drop payloadStart f) ≡ payloadOf f) × ((p .0, payloadStart + p .1) ≡ payloadPlace p f)
+      → (take (sequenceOffset f - payloadStart) (drop payloadStart f) ≡ payloadOf f) × ((p .0, payloadStart + p .1) ≡ payloadPlace p f)
   unfolding payloadOf payloadPlace
   payload-read p z =
       let k = eq-eqb (lengthCode (length f)) 0 (sym e ∙ z) in
       (simp k, simp k)
 
--- the code that reading tells is that of the length
+-- the code that reading reports is that of the length
 pub header-code : (f : List ℕ) → headerOf f .code ≡ lengthCode (length f)
 unfolding headerOf
 header-code f =

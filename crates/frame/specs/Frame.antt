@@ -20,15 +20,15 @@ constantField f = numberAt 4 f 0
 abbrev pub linkNumber : List ℕ → ℕ
 linkNumber f = numberAt 2 f 4
 
--- the sequence number is one octet, with the four of the frame check sequence behind it
+-- the sequence number is one octet, with the four of the frame check sequence after it
 abbrev pub sequenceFromEnd : ℕ
 sequenceFromEnd = 5
 
-abbrev pub sequencePlace : List ℕ → ℕ
-sequencePlace f = length f - sequenceFromEnd
+abbrev pub sequenceOffset : List ℕ → ℕ
+sequenceOffset f = length f - sequenceFromEnd
 
 abbrev pub sequenceNumber : List ℕ → ℕ
-sequenceNumber f = getD f (sequencePlace f) 0
+sequenceNumber f = getD f (sequenceOffset f) 0
 
 -- frame reading: the code, the link and the sequence number; zeros after a refusal
 unfoldable pub headerOf : List ℕ → Header
@@ -37,7 +37,7 @@ headerOf f =
     then record { code = 0; link = linkNumber f; sequence = sequenceNumber f }
     else record { code = lengthCode (length f); link = 0; sequence = 0 }
 
--- the payload starts behind the two addresses and the type
+-- the payload starts after the two addresses and the type
 abbrev pub payloadStart : ℕ
 payloadStart = 14
 
@@ -45,7 +45,7 @@ payloadStart = 14
 unfoldable pub payloadOf : List ℕ → List ℕ
 payloadOf f =
     if eqb (lengthCode (length f)) 0
-    then take (sequencePlace f - payloadStart) (drop payloadStart f)
+    then take (sequenceOffset f - payloadStart) (drop payloadStart f)
     else []
 
 -- where the payload stands, as a block of memory and an offset in it: that far into the frame, or where the frame itself

@@ -1,2 +1,2 @@
 pub mod Claims
-pub mod Places
+pub mod Offsets

@@ -46,15 +46,15 @@ accountSize = tagAndLength + accountOctets
 abbrev pub linkSize : ℕ
 linkSize = tagAndLength + linkOctets
 
--- the offset of the field behind n accounts and m links, and of its data; that is also the length of an image that ends with it
-unfoldable pub fieldPlace : ℕ → ℕ → ℕ
-fieldPlace n m = headSize + accountSize * n + linkSize * m
+-- the offset of the field after n accounts and m links, and of its data; that is also the length of an image that ends with it
+unfoldable pub fieldOffset : ℕ → ℕ → ℕ
+fieldOffset n m = headSize + accountSize * n + linkSize * m
 
-abbrev pub dataPlace : ℕ → ℕ → ℕ
-dataPlace n m = fieldPlace n m + tagAndLength
+abbrev pub dataOffset : ℕ → ℕ → ℕ
+dataOffset n m = fieldOffset n m + tagAndLength
 
 abbrev pub imageLength : ℕ → ℕ → ℕ
-imageLength n m = dataPlace n m
+imageLength n m = dataOffset n m
 
 -- ---- limits ("Accounts and links"), and the longest image
 abbrev pub maxAccounts : ℕ
@@ -68,17 +68,17 @@ longestImage = imageLength maxAccounts maxLinks
 
 -- the octets that settle what an image of any length is answered: up to the end of a link that is one too many
 abbrev pub imagePrefix : ℕ
-imagePrefix = fieldPlace maxAccounts maxLinks + linkSize
+imagePrefix = fieldOffset maxAccounts maxLinks + linkSize
 
 -- ---- the head's data: the edition, then the constant field, whose first octet has its two low bits set
-abbrev pub editionPlace : ℕ
-editionPlace = tagAndLength
+abbrev pub editionOffset : ℕ
+editionOffset = tagAndLength
 
-abbrev pub constantPlace : ℕ
-constantPlace = editionPlace + 1
+abbrev pub constantOffset : ℕ
+constantOffset = editionOffset + 1
 
 abbrev pub constantOf : List ℕ → ℕ
-constantOf s = numberAt 4 s constantPlace
+constantOf s = numberAt 4 s constantOffset
 
 unfoldable pub constantGood : ℕ → Bool
 constantGood c = eqb (c / 2 ^ 24 % 4) 3

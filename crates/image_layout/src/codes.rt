@@ -15,7 +15,7 @@ pub const BAD_VALUE: u8 = 23;
 // An account or a link too many; for the writer also a count of 0 or over the rows lent.
 pub const BAD_COUNT: u8 = 24;
 
-// Octets behind the end.
+// Octets after the end.
 pub const SURPLUS: u8 = 25;
 
 // A lent run or room that is too short.

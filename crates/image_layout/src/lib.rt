@@ -1,6 +1,6 @@
 // The layout of a configuration image: tags, sizes, limits, and where a field stands.
 ghost use mathlib.Core.Path.{_≡_};
-ghost use Rattle.image_layout.specs.Layout.{accountSize, linkSize, fieldPlace, dataPlace, imagePrefix, constantGood};
+ghost use Rattle.image_layout.specs.Layout.{accountSize, linkSize, fieldOffset, dataOffset, imagePrefix, constantGood};
 ghost use Rattle.rows.specs.Rows.{spacing};
 use rows::Spacing;
 
@@ -37,9 +37,9 @@ pub const IMAGE_PREFIX: usize = HEAD_SIZE
     + LINK_SIZE * (MAX_LINKS as usize + 1);
 
 // The octet of the head's edition, and the first of its constant field.
-pub const EDITION_PLACE: usize = fields::TAG_AND_LENGTH;
+pub const EDITION_OFFSET: usize = fields::TAG_AND_LENGTH;
 
-pub const CONSTANT_PLACE: usize = EDITION_PLACE + 1;
+pub const CONSTANT_OFFSET: usize = EDITION_OFFSET + 1;
 
 // The prefix as a value: it is the figure that the definitions give.
 pub fn image_prefix() -> usize
@@ -48,16 +48,16 @@ pub fn image_prefix() -> usize
     IMAGE_PREFIX
 }
 
-// The offset of the field behind so many accounts and links.
-pub fn field_place(accounts: u16, links: u16) -> usize
-    ensures { λ r. ⌜ r ≡ fieldPlace accounts links ⌝ }
+// The offset of the field after so many accounts and links.
+pub fn field_offset(accounts: u16, links: u16) -> usize
+    ensures { λ r. ⌜ r ≡ fieldOffset accounts links ⌝ }
 {
     HEAD_SIZE + ACCOUNT_SIZE * accounts as usize + LINK_SIZE * links as usize
 }
 
 // The offset of that field's data.
-pub fn data_place(accounts: u16, links: u16) -> usize
-    ensures { λ r. ⌜ r ≡ dataPlace accounts links ⌝ }
+pub fn data_offset(accounts: u16, links: u16) -> usize
+    ensures { λ r. ⌜ r ≡ dataOffset accounts links ⌝ }
 {
     HEAD_SIZE
         + ACCOUNT_SIZE * accounts as usize
@@ -67,20 +67,20 @@ pub fn data_place(accounts: u16, links: u16) -> usize
 
 // Where the data of the accounts stand.
 pub fn account_fields() -> Spacing
-    ensures { λ r. ⌜ r ≡ spacing (dataPlace 0 0) accountSize ⌝ }
+    ensures { λ r. ⌜ r ≡ spacing (dataOffset 0 0) accountSize ⌝ }
 {
     Spacing {
-        first: data_place(0, 0),
+        first: data_offset(0, 0),
         step: ACCOUNT_SIZE as u8,
     }
 }
 
-// Where the data of the links behind so many accounts stand.
+// Where the data of the links after so many accounts stand.
 pub fn link_fields(accounts: u16) -> Spacing
-    ensures { λ r. ⌜ r ≡ spacing (dataPlace accounts 0) linkSize ⌝ }
+    ensures { λ r. ⌜ r ≡ spacing (dataOffset accounts 0) linkSize ⌝ }
 {
     Spacing {
-        first: data_place(accounts, 0),
+        first: data_offset(accounts, 0),
         step: LINK_SIZE as u8,
     }
 }

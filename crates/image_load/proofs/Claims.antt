@@ -12,7 +12,7 @@ use Rattle.octets.specs.Runs.{put}
 use Rattle.lists.proofs.Tests.{split}
 use Rattle.octets.proofs.Runs.{put-fits, put-no-room}
 use Rattle.tables.specs.Rows.{accountOctets, linkOctets}
-use Rattle.image_read.specs.Read.{accountFields, refused, readImage}
+use Rattle.image_read.specs.Read.{accountFields, imageRefused, readImage}
 use Rattle.image_read.proofs.Accepted.{accepted, refused-zeros}
 use Rattle.image_read.proofs.Claims.{listed, code-listed, not-26, offset-inside}
 use Rattle.image_load.specs.Loading.{Runs, accountRows, linkRows, capacities, filled}
@@ -42,7 +42,7 @@ load-refuses s r = (
       (λ d f. refl)
       (λ z t f. absurd (f z))
       (λ z t f. absurd (f z)),
-  by-load s r (λ w. readImage s .code ≡ 0 → runsHeld s r ≡ false → w .answer ≡ refused 26 (length s))
+  by-load s r (λ w. readImage s .code ≡ 0 → runsHeld s r ≡ false → w .answer ≡ imageRefused 26 (length s))
       (λ d z f. absurd (d z))
       (λ z t y f. absurd (false≢true (sym f ∙ t)))
       (λ z t y f. refl),
@@ -57,7 +57,7 @@ offsets-inside s r =
     (λ z _. (offset-inside s, λ _. accepted s z .offset-is, λ e. absurd (not-26 s e)))
     (λ _ _. (omega arith, λ e. absurd (omega arith), λ _. refl))
 
--- ---- rows beyond what was laid
+-- ---- rows beyond what was written
 drop-put : (d xs : List ℕ) (k : ℕ) → length xs ≡ k → drop k (put d 0 xs) ≡ drop k d
 drop-put d xs k e =
     let p : 0 + length xs ≡ k = omega arith in
@@ -65,7 +65,7 @@ drop-put d xs k e =
     (λ h. ap (drop k) (put-fits d 0 xs (leb-true _ _ h)) ∙ drop-at xs (drop (0 + length xs) d) k e ∙ ap (λ (i : ℕ). drop i d) p)
     (λ h. ap (drop k) (put-no-room d 0 xs (leb-false _ _ h)))
 
--- filled runs are as they were behind the rows named
+-- filled runs are as they were after the rows named
 abbrev Beyond : ℕ → ℕ → Runs → Runs → Type 0
 Beyond n m a r =
     (drop (accountOctets * n) (a .accounts) ≡ drop (accountOctets * n) (r .accounts))

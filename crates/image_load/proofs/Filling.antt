@@ -18,14 +18,14 @@ use Rattle.rows.specs.Rows.{rowOctets}
 use Rattle.tables.specs.Rows.{accountOctets, linkOctets, termsAt, accountIn}
 use Rattle.tables.specs.Rules.{accountGood}
 use Rattle.fields.specs.Fields.{tagAndLength}
-use Rattle.image_layout.specs.Layout.{dataPlace}
+use Rattle.image_layout.specs.Layout.{dataOffset}
 use Rattle.image_read.specs.Read.{fieldRows, accountFields}
 use Rattle.image_load.specs.Loading.{Runs, runsOf, loadingOf, accountRows, linkRows, fullCredit, capacities, filled, answerFor, loading}
-use Rattle.image_read.specs.declared.Loaded.{Loaded}
+use Rattle.image_read.specs.declared.ImageAnswer.{ImageAnswer}
 use Rattle.image_load.proofs.Loading.{loaded-good, refused-none}
-use Rattle.image_layout.proofs.Places.{account-place}
+use Rattle.image_layout.proofs.Offsets.{account-offset}
 
--- ---- a row of the image, read from a place that is cut to the image's length
+-- ---- a row of the image, read from an offset that is cut to the image's length
 pub row-clamped : (s : List ℕ) (first start size i : ℕ) → start ≡ min first (length s)
     → octetsAt size s (start + (tagAndLength + size) * i) ≡ rowOctets size (fieldRows s first size) i
 row-clamped s first start size i e =
@@ -36,21 +36,21 @@ row-clamped s first start size i e =
 
 -- all rows, of accounts and of links
 module _ (s d e : List ℕ) (at : ℕ) where
-  pub accounts-laid : (n : ℕ) → at ≡ dataPlace 0 0 → e ≡ put d 0 (joined (rowOctets accountOctets (fieldRows s at accountOctets)) n) → e ≡ put d 0 (accountRows s n)
+  pub accounts-written : (n : ℕ) → at ≡ dataOffset 0 0 → e ≡ put d 0 (joined (rowOctets accountOctets (fieldRows s at accountOctets)) n) → e ≡ put d 0 (accountRows s n)
   unfolding accountRows
-  accounts-laid n p v = v ∙ ap (λ (a : ℕ). put d 0 (joined (rowOctets accountOctets (fieldRows s a accountOctets)) n)) p
+  accounts-written n p v = v ∙ ap (λ (a : ℕ). put d 0 (joined (rowOctets accountOctets (fieldRows s a accountOctets)) n)) p
 
-  pub links-laid : (n m : ℕ) → at ≡ dataPlace n 0 → e ≡ put d 0 (joined (rowOctets linkOctets (fieldRows s at linkOctets)) m) → e ≡ put d 0 (linkRows s n m)
+  pub links-written : (n m : ℕ) → at ≡ dataOffset n 0 → e ≡ put d 0 (joined (rowOctets linkOctets (fieldRows s at linkOctets)) m) → e ≡ put d 0 (linkRows s n m)
   unfolding linkRows
-  links-laid n m p v = v ∙ ap (λ (a : ℕ). put d 0 (joined (rowOctets linkOctets (fieldRows s a linkOctets)) m)) p
+  links-written n m p v = v ∙ ap (λ (a : ℕ). put d 0 (joined (rowOctets linkOctets (fieldRows s a linkOctets)) m)) p
 
 -- ---- the capacity of an account: as the method gives it, and as the formula does
 abbrev pub methodCapacity : List ℕ → ℕ → List ℕ
 methodCapacity s i = checkedCapacity (accountIn (accountFields s) i) ∷ []
 
-pub capacity-read : (s : List ℕ) (i at : ℕ) (p : Terms) (x : ℕ) → at ≡ dataPlace i 0 → p ≡ termsAt s at → x ≡ checkedCapacity p
+pub capacity-read : (s : List ℕ) (i at : ℕ) (p : Terms) (x : ℕ) → at ≡ dataOffset i 0 → p ≡ termsAt s at → x ≡ checkedCapacity p
     → x ≡ checkedCapacity (accountIn (accountFields s) i)
-capacity-read s i at p x e f g = g ∙ ap checkedCapacity (f ∙ ap (termsAt s) (e ∙ account-place i))
+capacity-read s i at p x e f g = g ∙ ap checkedCapacity (f ∙ ap (termsAt s) (e ∙ account-offset i))
 
 full-capacity : (s : List ℕ) (i : ℕ) → accountGood (accountFields s) i ≡ true → checkedCapacity (accountIn (accountFields s) i) ≡ fullCredit (accountFields s) i
 unfolding accountGood
@@ -63,7 +63,7 @@ capacities-good s n h =
     (λ i l. ap (λ (x : ℕ). x ∷ []) (full-capacity s i (h i l)))
 
 -- ---- what loading leaves: nothing where it refuses, else the rows that the image names
-module _ (s : List ℕ) (r : Runs) (q : Loaded) (e : q ≡ answerFor s r) (a c t l : List ℕ)
+module _ (s : List ℕ) (r : Runs) (q : ImageAnswer) (e : q ≡ answerFor s r) (a c t l : List ℕ)
     (p1 : a ≡ put (r .accounts) 0 (accountRows s (q .settings .accounts)))
     (p2 : c ≡ put (r .credits) 0 (joined (methodCapacity s) (q .settings .accounts)))
     (p3 : t ≡ put (r .lasts) 0 (replicate (q .settings .accounts) 0))

@@ -21,7 +21,7 @@ use Rattle.tables.specs.Rows.{accountOctets, linkOctets, accountTable, linkTabl
 use Rattle.tables.specs.Rules.{linkSound, numberRises, linkGood}
 use Rattle.tables.proofs.Rows.{terms-same, link-same}
 use Rattle.tables.proofs.Rules.{account-good-same, link-good-same}
-use Rattle.image_read.specs.Read.{accountFields, linkFields, accountCount, linkCount, refused, readImage}
+use Rattle.image_read.specs.Read.{accountFields, linkFields, goodAccounts, goodLinks, imageRefused, readImage}
 use Rattle.image_load.specs.Loading.{Runs, Loading, loadingOf, accountRows, linkRows, fullCredit, capacities, filled, runsHold, longEnough, loading}
 use Rattle.image_load.specs.Fresh.{Begins, Fresh, LoadFresh, LoadAccepts, HoldsImage, FreshHolds, FreshSound}
 use Rattle.image_read.proofs.Reading.{few-read}
@@ -36,7 +36,7 @@ runsHeld s r = longEnough (readImage s .settings .accounts) (readImage s .settin
 pub by-load : (s : List ℕ) (r : Runs) (P : Loading → Type 0)
     → ((readImage s .code ≡ 0 → ⊥) → P (loadingOf (readImage s) r))
     → (readImage s .code ≡ 0 → runsHeld s r ≡ true → P (loadingOf (readImage s) (filled s (readImage s .settings .accounts) (readImage s .settings .links) r)))
-    → (readImage s .code ≡ 0 → runsHeld s r ≡ false → P (loadingOf (refused 26 (length s)) r))
+    → (readImage s .code ≡ 0 → runsHeld s r ≡ false → P (loadingOf (imageRefused 26 (length s)) r))
     → P (loading s r)
 unfolding loading
 by-load s r P f g h =
@@ -79,7 +79,7 @@ load-accepts s r z t =
     (λ _ _. refl)
     (λ _ f. absurd (false≢true (sym f ∙ t)))
 
--- ---- a run that begins with another: one into which that was laid
+-- ---- a run that begins with another: one into which that was written
 pub begins-put : (d xs : List ℕ) → length xs ≤ length d → Begins xs (put d 0 xs)
 begins-put d xs h = ap (take (length xs)) (put-fits d 0 xs (omega arith)) ∙ take-append-seam xs (drop (0 + length xs) d)
 
@@ -103,7 +103,7 @@ module _ (f : ℕ → List ℕ) (w : ℕ) (each : (i : ℕ) → length (f i) ≡
       let h : length (joined f n) ≤ length d = begins-length (joined f n) d e in
       omega arith
 
-  -- each stands at its place
+  -- each stands at its offset
   pub rows-at : (i : ℕ) → i < n → octetsAt w d (w * i) ≡ f i
   rows-at i h =
       let l : length (joined f n) ≡ w * n = length-joined f w each n in
@@ -252,7 +252,7 @@ module _ (s : List ℕ) (r : Runs) (f : Fresh s r) where
   -- each link is good among the tables' own rows
   link-good : (j : ℕ) → j < m → linkGood (accountTable (r .accounts)) (linkTable (r .links)) n j ≡ true
   link-good j h =
-      let k : m ≡ linkCount s n = read .links-are in
+      let k : m ≡ goodLinks s n = read .links-are in
       link-good-same (accountTable (r .accounts)) (accountFields s) (linkTable (r .links)) (linkFields s n) n j
       (rows .accounts) (rows .links j h) (rows .links (j - 1) (omega arith))
       ∙ good-link s n j (counted-link s n j (omega arith))
@@ -262,7 +262,7 @@ fresh-sound s r f =
     let n : ℕ = readImage s .settings .accounts in
     let m : ℕ = readImage s .settings .links in
     let a : Accepted s (readImage s) = read s r f in
-    let k : n ≡ accountCount s = a .accounts-are in
+    let k : n ≡ goodAccounts s = a .accounts-are in
     let g = link-good s r f in
     record {
       long = rows s r f .long;

@@ -11,8 +11,8 @@ use Rattle.lists.proofs.Tests.{split}
 use Rattle.tables.specs.Rows.{accountOctets, linkOctets}
 use Rattle.tables.specs.Rules.{accountGood}
 use Rattle.image_layout.specs.Layout.{maxAccounts, maxLinks}
-use Rattle.image_read.specs.Read.{accountFields, refused, readImage}
-use Rattle.image_read.specs.declared.Loaded.{Loaded}
+use Rattle.image_read.specs.Read.{accountFields, imageRefused, readImage}
+use Rattle.image_read.specs.declared.ImageAnswer.{ImageAnswer}
 use Rattle.image_read.proofs.Accepted.{accepted, refused-zeros, counted-account, good-account}
 use Rattle.image_read.proofs.Reading.{Few, few-read}
 use Rattle.image_load.specs.Loading.{Runs, runsHold, loadAnswer, answerFor}
@@ -38,28 +38,28 @@ module _ (n m accounts credits lasts links : ℕ) where
       links-tested h = simp (le-leb _ _ h1, le-leb _ _ h2, le-leb _ _ h)
 
 -- ---- the answer of loading
-module _ (s : List ℕ) (accounts credits lasts links : ℕ) (q : Loaded) (e : q ≡ readImage s) where
+module _ (s : List ℕ) (accounts credits lasts links : ℕ) (q : ImageAnswer) (e : q ≡ readImage s) where
   pub load-refused : (q .code ≡ 0 → ⊥) → q ≡ loadAnswer s accounts credits lasts links
   unfolding loadAnswer
-  load-refused d = e ∙ simp (ne-eqb _ _ (λ z. d (ap (λ (x : Loaded). x .code) e ∙ z)))
+  load-refused d = e ∙ simp (ne-eqb _ _ (λ z. d (ap (λ (x : ImageAnswer). x .code) e ∙ z)))
 
   module _ (z : q .code ≡ 0) (r : Bool) (v : r ≡ runsHold (q .settings .accounts) (q .settings .links) accounts credits lasts links) where
     held : r ≡ runsHold (readImage s .settings .accounts) (readImage s .settings .links) accounts credits lasts links
-    held = v ∙ ap (λ (x : Loaded). runsHold (x .settings .accounts) (x .settings .links) accounts credits lasts links) e
+    held = v ∙ ap (λ (x : ImageAnswer). runsHold (x .settings .accounts) (x .settings .links) accounts credits lasts links) e
 
     pub load-held : r ≡ true → q ≡ loadAnswer s accounts credits lasts links
     unfolding loadAnswer
-    load-held t = e ∙ simp (eq-eqb _ _ (sym (ap (λ (x : Loaded). x .code) e) ∙ z), ← held, t)
+    load-held t = e ∙ simp (eq-eqb _ _ (sym (ap (λ (x : ImageAnswer). x .code) e) ∙ z), ← held, t)
 
-    pub load-short : r ≡ false → (w : Loaded) → w ≡ refused 26 (length s) → w ≡ loadAnswer s accounts credits lasts links
+    pub load-short : r ≡ false → (w : ImageAnswer) → w ≡ imageRefused 26 (length s) → w ≡ loadAnswer s accounts credits lasts links
     unfolding loadAnswer
-    load-short t w u = u ∙ simp (eq-eqb _ _ (sym (ap (λ (x : Loaded). x .code) e) ∙ z), ← held, t)
+    load-short t w u = u ∙ simp (eq-eqb _ _ (sym (ap (λ (x : ImageAnswer). x .code) e) ∙ z), ← held, t)
 
 -- by cases of what loading answers
-pub by-loading : (s : List ℕ) (accounts credits lasts links : ℕ) (P : Loaded → Type 0)
+pub by-loading : (s : List ℕ) (accounts credits lasts links : ℕ) (P : ImageAnswer → Type 0)
     → ((readImage s .code ≡ 0 → ⊥) → P (readImage s))
     → (readImage s .code ≡ 0 → runsHold (readImage s .settings .accounts) (readImage s .settings .links) accounts credits lasts links ≡ true → P (readImage s))
-    → (readImage s .code ≡ 0 → runsHold (readImage s .settings .accounts) (readImage s .settings .links) accounts credits lasts links ≡ false → P (refused 26 (length s)))
+    → (readImage s .code ≡ 0 → runsHold (readImage s .settings .accounts) (readImage s .settings .links) accounts credits lasts links ≡ false → P (imageRefused 26 (length s)))
     → P (loadAnswer s accounts credits lasts links)
 unfolding loadAnswer
 by-loading s accounts credits lasts links P f g h =
@@ -74,7 +74,7 @@ pub few-loaded : (s : List ℕ) (accounts credits lasts links : ℕ) → Few (lo
 few-loaded s accounts credits lasts links =
     by-loading s accounts credits lasts links Few (λ d. few-read s) (λ e t. few-read s) (λ e t. (omega arith, omega arith))
 
-module _ (s : List ℕ) (accounts credits lasts links : ℕ) (q : Loaded) (e : q ≡ loadAnswer s accounts credits lasts links) where
+module _ (s : List ℕ) (accounts credits lasts links : ℕ) (q : ImageAnswer) (e : q ≡ loadAnswer s accounts credits lasts links) where
   pub few-accounts-loaded : q .settings .accounts ≤ maxAccounts
   few-accounts-loaded = rw e (few-loaded s accounts credits lasts links .0)
 
@@ -82,9 +82,9 @@ module _ (s : List ℕ) (accounts credits lasts links : ℕ) (q : Loaded) (e : q
   few-links-loaded = rw e (few-loaded s accounts credits lasts links .1)
 
 -- ---- a refusal has no counts, and what is accepted has good accounts
-module _ (s : List ℕ) (r : Runs) (q : Loaded) (e : q ≡ answerFor s r) where
-  by-answer : (P : Loaded → Type 0)
-      → ((readImage s .code ≡ 0 → ⊥) → P (readImage s)) → (readImage s .code ≡ 0 → P (readImage s)) → P (refused 26 (length s)) → P q
+module _ (s : List ℕ) (r : Runs) (q : ImageAnswer) (e : q ≡ answerFor s r) where
+  by-answer : (P : ImageAnswer → Type 0)
+      → ((readImage s .code ≡ 0 → ⊥) → P (readImage s)) → (readImage s .code ≡ 0 → P (readImage s)) → P (imageRefused 26 (length s)) → P q
   by-answer P f g h = rw e (by-loading s (length (r .accounts)) (length (r .credits)) (length (r .lasts)) (length (r .links)) P f (λ z t. g z) (λ z t. h))
 
   pub refused-none : (q .code ≡ 0 → ⊥) → (q .settings .accounts ≡ 0) × (q .settings .links ≡ 0)

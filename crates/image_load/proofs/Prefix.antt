@@ -9,9 +9,9 @@ use lib.ListN.{length, take}
 use lib.Seq.{take-all}
 use borrow.Author.Tests.{eqb-true, eqb-false}
 use Rattle.lists.proofs.Tests.{split}
-use Rattle.image_layout.specs.Layout.{fieldPlace, imagePrefix}
+use Rattle.image_layout.specs.Layout.{fieldOffset, imagePrefix}
 use Rattle.image_read.specs.Read.{readImage}
-use Rattle.image_read.specs.declared.Loaded.{Loaded}
+use Rattle.image_read.specs.declared.ImageAnswer.{ImageAnswer}
 use Rattle.image_read.proofs.Accepted.{accepted}
 use Rattle.image_read.proofs.Prefix.{prefix-read}
 use Rattle.image_read.proofs.Reading.{few-read}
@@ -20,7 +20,7 @@ use Rattle.image_load.specs.Claims.{PrefixLoad}
 use Rattle.image_load.proofs.Fresh.{by-load}
 
 short : (s : List ℕ) → readImage s .code ≡ 0 → length s ≤ imagePrefix
-unfolding fieldPlace
+unfolding fieldOffset
 short s z = let l = accepted s z .length-is in let a = few-read s .0 in let b = few-read s .1 in omega arith
 
 refused-load : (s : List ℕ) (r : Runs) → (readImage s .code ≡ 0 → ⊥) → loading s r ≡ loadingOf (readImage s) r
@@ -34,6 +34,6 @@ prefix-load s r =
     (λ e.
     let d : (readImage s .code ≡ 0 → ⊥) = eqb-false _ _ e in
     let q : readImage (take imagePrefix s) ≡ readImage s = prefix-read s in
-    refused-load (take imagePrefix s) r (λ z. d (sym (ap (λ (x : Loaded). x .code) q) ∙ z))
-    ∙ ap (λ (x : Loaded). loadingOf x r) q
+    refused-load (take imagePrefix s) r (λ z. d (sym (ap (λ (x : ImageAnswer). x .code) q) ∙ z))
+    ∙ ap (λ (x : ImageAnswer). loadingOf x r) q
     ∙ sym (refused-load s r d))

@@ -7,7 +7,7 @@ use mathlib.Core.List.{List, [], _∷_, List·Memᴰ}
 use lib.ListN.{length, take, drop}
 use Rattle.tables.specs.Rows.{accountOctets, linkOctets}
 use Rattle.image_layout.specs.Layout.{imagePrefix}
-use Rattle.image_read.specs.Read.{refused, readImage}
+use Rattle.image_read.specs.Read.{imageRefused, readImage}
 use Rattle.image_load.specs.Loading.{Runs, longEnough, loading}
 
 -- demand 1: the codes that loading can answer
@@ -30,7 +30,7 @@ LoadRefuses =
     → ((readImage s .code ≡ 0 → ⊥) → loading s r .answer ≡ readImage s)
     × (readImage s .code ≡ 0
     → longEnough (readImage s .settings .accounts) (readImage s .settings .links) r ≡ false
-    → loading s r .answer ≡ refused 26 (length s))
+    → loading s r .answer ≡ imageRefused 26 (length s))
 
 -- the offset answered never lies past the image; success and 26 answer its length
 abbrev pub OffsetsInside : Type 0

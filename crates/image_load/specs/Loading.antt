@@ -10,8 +10,8 @@ use Rattle.octets.specs.Runs.{joined, put}
 use Rattle.terms.specs.Terms.{capacity}
 use Rattle.rows.specs.Rows.{Rows, rowOctets}
 use Rattle.tables.specs.Rows.{accountOctets, linkOctets, accountIn}
-use Rattle.image_read.specs.Read.{accountFields, linkFields, refused, readImage}
-use Rattle.image_read.specs.declared.Loaded.{Loaded}
+use Rattle.image_read.specs.Read.{accountFields, linkFields, imageRefused, readImage}
+use Rattle.image_read.specs.declared.ImageAnswer.{ImageAnswer}
 
 -- the lent runs: rows of accounts, credits, last times, rows of links
 pub record Runs : Type 0 where
@@ -25,13 +25,13 @@ runsOf a c t l = record { accounts = a; credits = c; lasts = t; links = l }
 
 -- an answer, and the runs beside it
 pub record Loading : Type 0 where
-  pub answer : Loaded
+  pub answer : ImageAnswer
   pub runs : Runs
 
-abbrev pub loadingOf : Loaded → Runs → Loading
+abbrev pub loadingOf : ImageAnswer → Runs → Loading
 loadingOf q r = record { answer = q; runs = r }
 
--- ---- what is written: the data of n accounts, of m links behind them, and the accounts' capacities
+-- ---- what is written: the data of n accounts, of m links after them, and the accounts' capacities
 unfoldable pub accountRows : List ℕ → ℕ → List ℕ
 accountRows s n = joined (rowOctets accountOctets (accountFields s)) n
 
@@ -62,13 +62,13 @@ abbrev pub longEnough : ℕ → ℕ → Runs → Bool
 longEnough n m r = runsHold n m (length (r .accounts)) (length (r .credits)) (length (r .lasts)) (length (r .links))
 
 -- the answer, by the lengths of the runs: 26 only when all is well
-unfoldable pub loadAnswer : List ℕ → ℕ → ℕ → ℕ → ℕ → Loaded
+unfoldable pub loadAnswer : List ℕ → ℕ → ℕ → ℕ → ℕ → ImageAnswer
 loadAnswer s accounts credits lasts links =
     if not (eqb (readImage s .code) 0) then readImage s
     else if runsHold (readImage s .settings .accounts) (readImage s .settings .links) accounts credits lasts links then readImage s
-    else refused 26 (length s)
+    else imageRefused 26 (length s)
 
-abbrev pub answerFor : List ℕ → Runs → Loaded
+abbrev pub answerFor : List ℕ → Runs → ImageAnswer
 answerFor s r = loadAnswer s (length (r .accounts)) (length (r .credits)) (length (r .lasts)) (length (r .links))
 
 unfoldable pub loading : List ℕ → Runs → Loading

@@ -9,7 +9,7 @@ ghost use Rattle.tables.specs.Rows.{accountIn};
 ghost use Rattle.image_read.specs.Read.{fieldRows, accountFields};
 ghost use Rattle.image_load.specs.Loading.{accountRows, linkRows};
 
-// The data of n fields of `size` octets, the first at `first`, laid side by side.
+// The data of n fields of `size` octets, the first at `first`, written side by side.
 fn copy_rows(image: &[u8], first: usize, size: u8, n: u16, rows: &mut [u8])
     ensures { λ r. ⌜ now (rows .exit) ≡ put (now (rows .entry)) 0 (joined (rowOctets size (fieldRows (now (image .entry)) first size)) n) ⌝ }
 {
@@ -30,7 +30,7 @@ fn copy_rows(image: &[u8], first: usize, size: u8, n: u16, rows: &mut [u8])
 fn capacity_of(image: &[u8], i: u16) -> u32
     ensures { λ r. ⌜ r ≡ checkedCapacity (accountIn (accountFields (now (image .entry))) i) ⌝ }
 {
-    tables::terms_at(image, image_layout::data_place(i, 0)).capacity()
+    tables::terms_at(image, image_layout::data_offset(i, 0)).capacity()
 }
 
 // The capacities of the first n accounts.
@@ -78,7 +78,7 @@ pub(crate) fn fill_runs(
 {
     copy_rows(
         image,
-        image_layout::data_place(0, 0),
+        image_layout::data_offset(0, 0),
         tables::ACCOUNT_OCTETS as u8,
         n,
         accounts,
@@ -87,7 +87,7 @@ pub(crate) fn fill_runs(
     clear_lasts(n, lasts);
     copy_rows(
         image,
-        image_layout::data_place(n, 0),
+        image_layout::data_offset(n, 0),
         tables::LINK_OCTETS as u8,
         m,
         links,

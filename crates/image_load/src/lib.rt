@@ -1,4 +1,4 @@
-// Loading a configuration image into lent tables, and a reader that holds an image with its place.
+// Loading a configuration image into lent tables, and a reader that holds an image with its offset.
 ghost use mathlib.Core.Path.{_≡_};
 ghost use Rattle.image_load.specs.Loading.{runsHold, loadAnswer, runsOf, loadingOf, loading};
 
@@ -6,7 +6,7 @@ mod fill;
 pub mod reader;
 
 use image_layout::codes;
-use image_read::Loaded;
+use image_read::ImageAnswer;
 
 // Whether runs of these lengths hold so many accounts and links.
 fn runs_hold(n: u16, m: u16, accounts: usize, credits: usize, lasts: usize, links: usize) -> bool
@@ -25,7 +25,13 @@ fn runs_hold(n: u16, m: u16, accounts: usize, credits: usize, lasts: usize, link
 }
 
 // What loading answers, by the image and the lengths of the runs.
-fn load_answer(image: &[u8], accounts: usize, credits: usize, lasts: usize, links: usize) -> Loaded
+fn load_answer(
+    image: &[u8],
+    accounts: usize,
+    credits: usize,
+    lasts: usize,
+    links: usize,
+) -> ImageAnswer
     ensures { λ r. ⌜ r ≡ loadAnswer (now (image .entry)) accounts credits lasts links ⌝ }
 {
     let answer = image_read::check(image);
@@ -53,7 +59,7 @@ pub fn load(
     credits: &mut [u32],
     lasts: &mut [u64],
     links: &mut [u8],
-) -> Loaded
+) -> ImageAnswer
     ensures { λ r. ⌜ loadingOf r (runsOf (now (accounts .exit)) (now (credits .exit)) (now (lasts .exit)) (now (links .exit))) ≡ loading (now (image .entry)) (runsOf (now (accounts .entry)) (now (credits .entry)) (now (lasts .entry)) (now (links .entry))) ⌝ }
 {
     let answer = load_answer(

@@ -1,4 +1,4 @@
-// Laying an image's octets into lent room. What has no room is not laid at all.
+// Writing an image's octets into lent room. What has no room is not written at all.
 ghost use mathlib.Core.List.{_∷_};
 ghost use mathlib.Core.Path.{_≡_};
 ghost use Rattle.octets.specs.Numbers.{octetsOf};
@@ -17,11 +17,11 @@ fn put_head(room: &mut [u8], constant: u32)
     }
     room[0] = image_layout::HEAD_TAG;
     octets_write::put_u16(room, 1, image_layout::HEAD_OCTETS as u16);
-    room[image_layout::EDITION_PLACE] = image_layout::EDITION;
-    octets_write::put_u32(room, image_layout::CONSTANT_PLACE, constant);
+    room[image_layout::EDITION_OFFSET] = image_layout::EDITION;
+    octets_write::put_u32(room, image_layout::CONSTANT_OFFSET, constant);
 }
 
-// One field at a place: its tag, its length, and `size` octets of the rows from `from` on.
+// One field at an offset: its tag, its length, and `size` octets of the rows from `from` on.
 fn put_field(room: &mut [u8], at: usize, tag: u8, rows: &[u8], from: usize, size: u8)
     ensures { λ r. ⌜ now (room .exit) ≡ put (now (room .entry)) at (fieldOf tag (octetsAt size (now (rows .entry)) from)) ⌝ }
 {
@@ -33,7 +33,7 @@ fn put_field(room: &mut [u8], at: usize, tag: u8, rows: &[u8], from: usize, size
     octets_write::copy(rows, from, size as usize, room, at + fields::TAG_AND_LENGTH);
 }
 
-// The fields of the first n rows of `size` octets, from a place on.
+// The fields of the first n rows of `size` octets, from an offset on.
 fn put_fields(room: &mut [u8], at: usize, tag: u8, rows: &[u8], size: u8, n: u16)
     ensures { λ r. ⌜ now (room .exit) ≡ put (now (room .entry)) at (joined (λ i. fieldOf tag (rowOctets size (tableOf size (now (rows .entry))) i)) n) ⌝ }
 {
@@ -60,13 +60,13 @@ fn put_fields(room: &mut [u8], at: usize, tag: u8, rows: &[u8], size: u8, n: u16
 pub fn put_image(constant: u32, accounts: &[u8], n: u16, links: &[u8], m: u16, room: &mut [u8])
     ensures { λ r. ⌜ now (room .exit) ≡ put (now (room .entry)) 0 (imageOf (configOf constant (now (accounts .entry)) n (now (links .entry)) m)) ⌝ }
 {
-    if !octets::has_room(room.len(), 0, image_layout::data_place(n, m)) {
+    if !octets::has_room(room.len(), 0, image_layout::data_offset(n, m)) {
         return;
     }
     put_head(room, constant);
     put_fields(
         room,
-        image_layout::field_place(0, 0),
+        image_layout::field_offset(0, 0),
         image_layout::ACCOUNT_TAG,
         accounts,
         tables::ACCOUNT_OCTETS as u8,
@@ -74,7 +74,7 @@ pub fn put_image(constant: u32, accounts: &[u8], n: u16, links: &[u8], m: u16, r
     );
     put_fields(
         room,
-        image_layout::field_place(n, 0),
+        image_layout::field_offset(n, 0),
         image_layout::LINK_TAG,
         links,
         tables::LINK_OCTETS as u8,
@@ -82,7 +82,7 @@ pub fn put_image(constant: u32, accounts: &[u8], n: u16, links: &[u8], m: u16, r
     );
     put_field(
         room,
-        image_layout::field_place(n, m),
+        image_layout::field_offset(n, m),
         image_layout::END_TAG,
         accounts,
         0,

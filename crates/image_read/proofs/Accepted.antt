@@ -13,9 +13,9 @@ use Rattle.tables.specs.Rules.{accountGood, linkGood}
 use Rattle.lists.proofs.Leading.{leading-before, leading-fails}
 use Rattle.fields.specs.Fields.{tagAndLength, fieldAt}
 use Rattle.fields.specs.declared.Field.{Field}
-use Rattle.image_layout.specs.Layout.{headTag, accountTag, linkTag, endTag, headOctets, fieldPlace, imageLength, maxAccounts, maxLinks}
-use Rattle.image_read.specs.Read.{fieldCode, headGood, headCode, accountFields, linkFields, inOrder, dataOctets, isFull, valuesGood, tagAt, nextCode, goodField, accountCount, linkCount, readImage}
-use Rattle.image_read.specs.declared.Loaded.{Loaded}
+use Rattle.image_layout.specs.Layout.{headTag, accountTag, linkTag, endTag, headOctets, fieldOffset, imageLength, maxAccounts, maxLinks}
+use Rattle.image_read.specs.Read.{fieldCode, headGood, headCode, accountFields, linkFields, inOrder, dataOctets, isFull, valuesGood, tagAt, nextCode, goodField, goodAccounts, goodLinks, readImage}
+use Rattle.image_read.specs.declared.ImageAnswer.{ImageAnswer}
 use Rattle.image_read.proofs.Checks.{code-short, code-order, code-length, code-cut, code-full, code-bad, full-account, full-link}
 use Rattle.image_read.proofs.Reading.{by-end, by-reading}
 
@@ -89,12 +89,12 @@ unfolding headCode
 head-passes s z = passed s 0 (eqb (getD s 0 0) headTag) headOctets false (headGood s) z
 
 abbrev pub Next : List ℕ → ℕ → ℕ → Type 0
-Next s n m = Passed s (fieldPlace n m) (inOrder (tagAt s n m) n m) (dataOctets (tagAt s n m)) (isFull (tagAt s n m) n m) (valuesGood s (tagAt s n m) n m)
+Next s n m = Passed s (fieldOffset n m) (inOrder (tagAt s n m) n m) (dataOctets (tagAt s n m)) (isFull (tagAt s n m) n m) (valuesGood s (tagAt s n m) n m)
 
 pub next-passes : (s : List ℕ) (n m : ℕ) → nextCode s n m ≡ 0 → Next s n m
 unfolding nextCode
 next-passes s n m z =
-    passed s (fieldPlace n m) (inOrder (tagAt s n m) n m) (dataOctets (tagAt s n m)) (isFull (tagAt s n m) n m) (valuesGood s (tagAt s n m) n m) z
+    passed s (fieldOffset n m) (inOrder (tagAt s n m) n m) (dataOctets (tagAt s n m)) (isFull (tagAt s n m) n m) (valuesGood s (tagAt s n m) n m) z
 
 -- ---- a field that has the tag and is well
 module _ (s : List ℕ) (tag n m : ℕ) (e : goodField s tag n m ≡ true) where
@@ -106,7 +106,7 @@ module _ (s : List ℕ) (tag n m : ℕ) (e : goodField s tag n m ≡ true) where
   unfolding goodField
   good-code = eqb-true _ _ (both (eqb (tagAt s n m) tag) (eqb (nextCode s n m) 0) e .1)
 
-  pub good-passes : Passed s (fieldPlace n m) (inOrder tag n m) (dataOctets tag) (isFull tag n m) (valuesGood s tag n m)
+  pub good-passes : Passed s (fieldOffset n m) (inOrder tag n m) (dataOctets tag) (isFull tag n m) (valuesGood s tag n m)
   good-passes = rw good-tag at (next-passes s n m good-code)
 
 pub good-by : (s : List ℕ) (tag n m : ℕ) → tagAt s n m ≡ tag → nextCode s n m ≡ 0 → goodField s tag n m ≡ true
@@ -128,20 +128,20 @@ module _ (s : List ℕ) (n j : ℕ) (e : goodField s linkTag n j ≡ true) where
   link-first z = false≢true (rw z at (good-passes s linkTag n j e .ordered))
 
 -- ---- the accounts and links that were counted
-pub counted-account : (s : List ℕ) (i : ℕ) → i < accountCount s → goodField s accountTag i 0 ≡ true
-unfolding accountCount
+pub counted-account : (s : List ℕ) (i : ℕ) → i < goodAccounts s → goodField s accountTag i 0 ≡ true
+unfolding goodAccounts
 counted-account s i l = leading-before (λ k. goodField s accountTag k 0) maxAccounts i l
 
-pub counted-link : (s : List ℕ) (n j : ℕ) → j < linkCount s n → goodField s linkTag n j ≡ true
-unfolding linkCount
+pub counted-link : (s : List ℕ) (n j : ℕ) → j < goodLinks s n → goodField s linkTag n j ≡ true
+unfolding goodLinks
 counted-link s n j l = leading-before (λ k. goodField s linkTag n k) maxLinks j l
 
 -- ---- an accepted image
-pub record Accepted (s : List ℕ) (q : Loaded) : Type 0 where
+pub record Accepted (s : List ℕ) (q : ImageAnswer) : Type 0 where
   pub head-code : headCode s ≡ 0
   pub end-code : nextCode s (q .settings .accounts) (q .settings .links) ≡ 0
-  pub accounts-are : q .settings .accounts ≡ accountCount s
-  pub links-are : q .settings .links ≡ linkCount s (q .settings .accounts)
+  pub accounts-are : q .settings .accounts ≡ goodAccounts s
+  pub links-are : q .settings .links ≡ goodLinks s (q .settings .accounts)
   pub offset-is : q .offset ≡ length s
   pub length-is : length s ≡ imageLength (q .settings .accounts) (q .settings .links)
   pub constant-is : q .settings .constant ≡ numberAt 4 s 4
@@ -150,7 +150,7 @@ pub accepted : (s : List ℕ) → readImage s .code ≡ 0 → Accepted s (readIm
 accepted s =
     by-reading s (λ q. q .code ≡ 0 → Accepted s q)
     (λ d z. absurd (d z))
-    (λ h. by-end s (λ q. q .code ≡ 0 → Accepted s q) (accountCount s) (linkCount s (accountCount s))
+    (λ h. by-end s (λ q. q .code ≡ 0 → Accepted s q) (goodAccounts s) (goodLinks s (goodAccounts s))
     (λ d z. absurd (d z))
     (λ e l z. absurd (omega arith))
     (λ e l z. record {
@@ -159,19 +159,19 @@ accepted s =
       accounts-are = refl;
       links-are = refl;
       offset-is = refl;
-      length-is = let p = next-passes s (accountCount s) (linkCount s (accountCount s)) e .headed in omega arith;
+      length-is = let p = next-passes s (goodAccounts s) (goodLinks s (goodAccounts s)) e .headed in omega arith;
       constant-is = refl;
     }))
 
 -- a refusal answers zeros
-abbrev pub Zeros : Loaded → Type 0
+abbrev pub Zeros : ImageAnswer → Type 0
 Zeros q = (q .settings .constant ≡ 0) × (q .settings .accounts ≡ 0) × (q .settings .links ≡ 0)
 
 pub refused-zeros : (s : List ℕ) → (readImage s .code ≡ 0 → ⊥) → Zeros (readImage s)
 refused-zeros s =
     by-reading s (λ q. (q .code ≡ 0 → ⊥) → Zeros q)
     (λ d f. (refl, refl, refl))
-    (λ h. by-end s (λ q. (q .code ≡ 0 → ⊥) → Zeros q) (accountCount s) (linkCount s (accountCount s))
+    (λ h. by-end s (λ q. (q .code ≡ 0 → ⊥) → Zeros q) (goodAccounts s) (goodLinks s (goodAccounts s))
     (λ d f. (refl, refl, refl))
     (λ e l f. (refl, refl, refl))
     (λ e l f. absurd (f refl)))
@@ -196,12 +196,12 @@ module _ (tag n m : ℕ) (o : inOrder tag n m ≡ true) where
       (λ e. eqb-true _ _ e)
       (λ e. absurd (false≢true (rw (ne-eqb _ _ d, eq-eqb _ _ z, e, ne-eqb _ _ g) at o)))
 
-module _ (s : List ℕ) (n m : ℕ) (an : n ≡ accountCount s) (am : m ≡ linkCount s n) (z : nextCode s n m ≡ 0) where
+module _ (s : List ℕ) (n m : ℕ) (an : n ≡ goodAccounts s) (am : m ≡ goodLinks s n) (z : nextCode s n m ≡ 0) where
   p : Next s n m
   p = next-passes s n m z
 
   not-link : tagAt s n m ≡ linkTag → ⊥
-  unfolding linkCount
+  unfolding goodLinks
   not-link t =
       let k : m < maxLinks = ltb-of (full-link (tagAt s n m) n m (λ a. omega arith) t ∙ p .few) in
       false≢true (sym (leading-fails (λ j. goodField s linkTag n j) maxLinks (rw am at k)) ∙ rw am at (good-by s linkTag n m t z))
@@ -215,7 +215,7 @@ module _ (s : List ℕ) (n m : ℕ) (an : n ≡ accountCount s) (am : m ≡ link
       absurd (link-first s n 0 (counted-link s n 0 (omega arith)) e))
 
   not-account : m ≡ 0 → tagAt s n m ≡ accountTag → ⊥
-  unfolding accountCount
+  unfolding goodAccounts
   not-account e t =
       let k : n < maxAccounts = ltb-of (full-account (tagAt s n m) n m t ∙ p .few) in
       let g : goodField s accountTag n 0 ≡ true = rw e at (good-by s accountTag n m t z) in

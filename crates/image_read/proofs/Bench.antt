@@ -2,15 +2,15 @@
 use mathlib.Core.Path.{refl}
 use Rattle.octets.specs.Numbers.{numberAt, octetsOf}
 use Rattle.octets.specs.Runs.{octetsAt, joined}
-use Rattle.terms.specs.Terms.{inLimits}
+use Rattle.terms.specs.Terms.{termsGood}
 use Rattle.lists.specs.Leading.{leading}
 use Rattle.tables.specs.Rows.{termsAt, linkAt}
 use Rattle.tables.specs.Rules.{portsSound, sizesSound, linkSound, accountGood, numberRises, linkGood}
 use Rattle.fields.specs.Fields.{fieldOf}
-use Rattle.image_layout.specs.Layout.{imageOf, fieldPlace, constantGood}
-use Rattle.image_read.specs.Read.{fieldCode, headGood, headCode, inOrder, dataOctets, isFull, valuesGood, nextCode, goodField, accountCount, linkCount, readEnd, readImage}
+use Rattle.image_layout.specs.Layout.{imageOf, fieldOffset, constantGood}
+use Rattle.image_read.specs.Read.{fieldCode, headGood, headCode, inOrder, dataOctets, isFull, valuesGood, nextCode, goodField, goodAccounts, goodLinks, readEnd, readImage}
 use Rattle.image_read.specs.Bench.{ImagePReads}
 
 pub image-p-reads : ImagePReads
-unfolding numberAt octetsOf octetsAt joined inLimits leading termsAt linkAt portsSound sizesSound linkSound accountGood numberRises linkGood fieldOf imageOf fieldPlace constantGood fieldCode headGood headCode inOrder dataOctets isFull valuesGood nextCode goodField accountCount linkCount readEnd readImage
+unfolding numberAt octetsOf octetsAt joined termsGood leading termsAt linkAt portsSound sizesSound linkSound accountGood numberRises linkGood fieldOf imageOf fieldOffset constantGood fieldCode headGood headCode inOrder dataOctets isFull valuesGood nextCode goodField goodAccounts goodLinks readEnd readImage
 image-p-reads = (refl, refl, refl, refl)

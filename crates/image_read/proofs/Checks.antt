@@ -12,7 +12,7 @@ use Rattle.tables.specs.Rows.{accountOctets, linkOctets}
 use Rattle.tables.specs.Rules.{accountGood, linkGood}
 use Rattle.fields.specs.Fields.{fieldAt}
 use Rattle.fields.specs.declared.Field.{Field}
-use Rattle.image_layout.specs.Layout.{headTag, headOctets, accountTag, linkTag, endTag, edition, fieldPlace, maxAccounts, maxLinks, constantGood}
+use Rattle.image_layout.specs.Layout.{headTag, headOctets, accountTag, linkTag, endTag, edition, fieldOffset, maxAccounts, maxLinks, constantGood}
 use Rattle.image_read.specs.Read.{fieldCode, headGood, headCode, accountFields, linkFields, inOrder, dataOctets, isFull, valuesGood, nextCode}
 
 -- ---- the code of a field
@@ -135,11 +135,11 @@ module _ (s : List ℕ) (tag n m : ℕ) where
     values-end k = simp (ne-eqb _ _ h, ne-eqb _ _ k)
 
 -- ---- the field after n accounts and m links
-pub next-is : (s : List ℕ) (n m at : ℕ) (f : Field) → at ≡ fieldPlace n m → f ≡ fieldAt s at
+pub next-is : (s : List ℕ) (n m at : ℕ) (f : Field) → at ≡ fieldOffset n m → f ≡ fieldAt s at
     → (order : Bool) (size : ℕ) (full good : Bool) (r : ℕ) → order ≡ inOrder (f .tag) n m → full ≡ isFull (f .tag) n m → good ≡ valuesGood s (f .tag) n m
     → size ≡ dataOctets (f .tag) → r ≡ fieldCode f order size full good → r ≡ nextCode s n m
 unfolding nextCode
 next-is s n m at f e q order size full good r o u g d v =
-    let p : f ≡ fieldAt s (fieldPlace n m) = q ∙ ap (fieldAt s) e in
+    let p : f ≡ fieldAt s (fieldOffset n m) = q ∙ ap (fieldAt s) e in
     v ∙ rw (o, u, g, d)
     (ap (λ (x : Field). fieldCode x (inOrder (x .tag) n m) (dataOctets (x .tag)) (isFull (x .tag) n m) (valuesGood s (x .tag) n m)) p)

@@ -13,8 +13,8 @@ use Rattle.tables.specs.Rows.{accountOctets, linkOctets}
 use Rattle.lists.proofs.Leading.{leading-fails}
 use Rattle.fields.specs.Fields.{tagAndLength, fieldAt}
 use Rattle.fields.specs.declared.Field.{Field}
-use Rattle.image_layout.specs.Layout.{headTag, accountTag, linkTag, headSize, accountSize, linkSize, headOctets, fieldPlace, imageLength, maxAccounts, maxLinks, longestImage}
-use Rattle.image_read.specs.Read.{fieldCode, headGood, headCode, inOrder, dataOctets, isFull, valuesGood, tagAt, nextCode, goodField, accountCount, linkCount, readEnd, readImage}
+use Rattle.image_layout.specs.Layout.{headTag, accountTag, linkTag, headSize, accountSize, linkSize, headOctets, fieldOffset, imageLength, maxAccounts, maxLinks, longestImage}
+use Rattle.image_read.specs.Read.{fieldCode, headGood, headCode, inOrder, dataOctets, isFull, valuesGood, tagAt, nextCode, goodField, goodAccounts, goodLinks, readEnd, readImage}
 use Rattle.image_read.specs.Claims.{ReadCodes, AcceptedEnds, walked, ReadFieldByField}
 use Rattle.image_read.proofs.Accepted.{Accepted, accepted, head-passes, good-passes, link-first, counted-account, counted-link, some-accounts, some-links, end-tag}
 use Rattle.image_read.proofs.Reading.{few-accounts, few-links, few-read, by-end, by-reading}
@@ -44,15 +44,15 @@ module _ (P : ℕ → Type 0) (p0 : P 0) (p20 : P 20) (p21 : P 21) (p22 : P 22) 
   by-next : (s : List ℕ) (n m : ℕ) → P (nextCode s n m)
   unfolding nextCode
   by-next s n m =
-      by-field (fieldAt s (fieldPlace n m)) (inOrder (tagAt s n m) n m) (dataOctets (tagAt s n m)) (isFull (tagAt s n m) n m) (valuesGood s (tagAt s n m) n m)
+      by-field (fieldAt s (fieldOffset n m)) (inOrder (tagAt s n m) n m) (dataOctets (tagAt s n m)) (isFull (tagAt s n m) n m) (valuesGood s (tagAt s n m) n m)
 
   -- of an image
   pub by-code : P 25 → (s : List ℕ) → P (readImage s .code)
   by-code p25 s =
       by-reading s (λ q. P (q .code))
       (λ _. by-head s)
-      (λ _. by-end s (λ q. P (q .code)) (accountCount s) (linkCount s (accountCount s))
-      (λ _. by-next s (accountCount s) (linkCount s (accountCount s)))
+      (λ _. by-end s (λ q. P (q .code)) (goodAccounts s) (goodLinks s (goodAccounts s))
+      (λ _. by-next s (goodAccounts s) (goodLinks s (goodAccounts s)))
       (λ _ _. p25)
       (λ _ _. p0))
 
@@ -86,7 +86,7 @@ not-26 =
 
 -- ---- accepted images
 longest : (s : List ℕ) {n m : ℕ} → length s ≡ imageLength n m → n ≤ maxAccounts → m ≤ maxLinks → length s ≤ longestImage
-unfolding fieldPlace
+unfolding fieldOffset
 longest s e h k = omega arith
 
 pub accepted-ends : AcceptedEnds
@@ -104,35 +104,35 @@ accepted-ends s z =
     )
 
 -- ---- offsets: the place of the next field
-place-head : fieldPlace 0 0 ≡ headSize
-unfolding fieldPlace
-place-head = refl
+offset-head : fieldOffset 0 0 ≡ headSize
+unfolding fieldOffset
+offset-head = refl
 
-place-account : (n : ℕ) → fieldPlace (suc n) 0 ≡ fieldPlace n 0 + accountSize
-unfolding fieldPlace
-place-account n = omega arith
+offset-account : (n : ℕ) → fieldOffset (suc n) 0 ≡ fieldOffset n 0 + accountSize
+unfolding fieldOffset
+offset-account n = omega arith
 
-place-link : (n m : ℕ) → fieldPlace n (suc m) ≡ fieldPlace n m + linkSize
-unfolding fieldPlace
-place-link n m = omega arith
+offset-link : (n m : ℕ) → fieldOffset n (suc m) ≡ fieldOffset n m + linkSize
+unfolding fieldOffset
+offset-link n m = omega arith
 
 module _ (s : List ℕ) (z : headCode s ≡ 0) where
-  -- the field behind the accounts that were counted starts inside the image, or at its end
-  accounts-inside : (n : ℕ) → n ≤ accountCount s → fieldPlace n 0 ≤ length s
+  -- the field after the accounts that were counted starts inside the image, or at its end
+  accounts-inside : (n : ℕ) → n ≤ goodAccounts s → fieldOffset n 0 ≤ length s
   unfolding dataOctets
-  accounts-inside zero h = let p = place-head in let w = head-passes s z .whole in omega arith
+  accounts-inside zero h = let p = offset-head in let w = head-passes s z .whole in omega arith
   accounts-inside (suc n) h =
-      let w : fieldPlace n 0 + tagAndLength + accountOctets ≤ length s = good-passes s accountTag n 0 (counted-account s n (omega arith)) .whole in
-      let p = place-account n in
+      let w : fieldOffset n 0 + tagAndLength + accountOctets ≤ length s = good-passes s accountTag n 0 (counted-account s n (omega arith)) .whole in
+      let p = offset-account n in
       omega arith
 
-  -- and so does the field behind the links
-  links-inside : (n m : ℕ) → n ≤ accountCount s → m ≤ linkCount s n → fieldPlace n m ≤ length s
+  -- and so does the field after the links
+  links-inside : (n m : ℕ) → n ≤ goodAccounts s → m ≤ goodLinks s n → fieldOffset n m ≤ length s
   unfolding dataOctets
   links-inside n zero k h = accounts-inside n k
   links-inside n (suc m) k h =
-      let w : fieldPlace n m + tagAndLength + linkOctets ≤ length s = good-passes s linkTag n m (counted-link s n m (omega arith)) .whole in
-      let p = place-link n m in
+      let w : fieldOffset n m + tagAndLength + linkOctets ≤ length s = good-passes s linkTag n m (counted-link s n m (omega arith)) .whole in
+      let p = offset-link n m in
       omega arith
 
 pub offset-inside : (s : List ℕ) → readImage s .offset ≤ length s
@@ -140,8 +140,8 @@ offset-inside s =
     by-reading s (λ q. q .offset ≤ length s)
     (λ _. omega arith)
     (λ z.
-    let n : ℕ = accountCount s in
-    let m : ℕ = linkCount s n in
+    let n : ℕ = goodAccounts s in
+    let m : ℕ = goodLinks s n in
     by-end s (λ q. q .offset ≤ length s) n m
     (λ _. links-inside s z n m (omega arith) (omega arith))
     (λ _ l. omega arith)
@@ -165,7 +165,7 @@ module _ (k : ℕ) (s : List ℕ) (n m : ℕ) where
 not-good : (b : Bool) → (b ≡ true → ⊥) → b ≡ false
 not-good b h = split b (λ e. absurd (h e)) (λ e. e)
 
--- an account is good only before the links, and while there is room for one; a link only behind an account, and while there is room
+-- an account is good only before the links, and while there is room for one; a link only after an account, and while there is room
 module _ (s : List ℕ) (n m : ℕ) where
   account-room : goodField s accountTag n m ≡ true → n < maxAccounts
   unfolding isFull
@@ -183,20 +183,20 @@ module _ (s : List ℕ) (n m : ℕ) where
       (λ q. absurd (false≢true (rw (ne-eqb _ _ d, q) at (good-passes s accountTag n m g .ordered))))
 
 -- what was counted ends where the test fails
-accounts-end : (s : List ℕ) → goodField s accountTag (accountCount s) 0 ≡ true → ⊥
-unfolding accountCount
-accounts-end s g = false≢true (sym (leading-fails (λ i. goodField s accountTag i 0) maxAccounts (account-room s (accountCount s) 0 g)) ∙ g)
+accounts-end : (s : List ℕ) → goodField s accountTag (goodAccounts s) 0 ≡ true → ⊥
+unfolding goodAccounts
+accounts-end s g = false≢true (sym (leading-fails (λ i. goodField s accountTag i 0) maxAccounts (account-room s (goodAccounts s) 0 g)) ∙ g)
 
-links-end : (s : List ℕ) (n : ℕ) → goodField s linkTag n (linkCount s n) ≡ true → ⊥
-unfolding linkCount
-links-end s n g = false≢true (sym (leading-fails (λ j. goodField s linkTag n j) maxLinks (link-room s n (linkCount s n) g)) ∙ g)
+links-end : (s : List ℕ) (n : ℕ) → goodField s linkTag n (goodLinks s n) ≡ true → ⊥
+unfolding goodLinks
+links-end s n g = false≢true (sym (leading-fails (λ j. goodField s linkTag n j) maxLinks (link-room s n (goodLinks s n) g)) ∙ g)
 
 module _ (s : List ℕ) where
   abbrev n : ℕ
-  n = accountCount s
+  n = goodAccounts s
 
   abbrev m : ℕ
-  m = linkCount s n
+  m = goodLinks s n
 
   -- no account stands among the links
   no-account : (j : ℕ) → j ≤ m → goodField s accountTag n j ≡ true → ⊥

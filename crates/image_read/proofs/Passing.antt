@@ -1,4 +1,4 @@
--- Octets that are laid out as an image, with good values, read as accepted: the way back from Accepted. Assumes nothing.
+-- Octets that are written out as an image, with good values, read as accepted: the way back from Accepted. Assumes nothing.
 use Prim.Native.Nat.{ℕ, _+_, _≤_, _<_}
 use mathlib.Core.Bool.{Bool, true, false, not, _&&_, false≢true}
 use mathlib.Core.List.{List}
@@ -14,8 +14,8 @@ use Rattle.tables.specs.Rules.{accountGood, linkGood}
 use Rattle.lists.proofs.Leading.{leading-zero, leading-stop, leading-is}
 use Rattle.fields.specs.Fields.{tagAndLength, lengthAt, fieldAt, standsAt}
 use Rattle.fields.proofs.Fields.{stands-by, stands-tag, stands-length, stands-whole}
-use Rattle.image_layout.specs.Layout.{headTag, accountTag, linkTag, endTag, edition, headOctets, headSize, fieldPlace, imageLength, maxAccounts, maxLinks, constantGood}
-use Rattle.image_read.specs.Read.{headGood, headCode, accountFields, linkFields, inOrder, dataOctets, isFull, valuesGood, codeByTag, tagAt, nextCode, goodField, accountCount, linkCount, readImage}
+use Rattle.image_layout.specs.Layout.{headTag, accountTag, linkTag, endTag, edition, headOctets, headSize, fieldOffset, imageLength, maxAccounts, maxLinks, constantGood}
+use Rattle.image_read.specs.Read.{headGood, headCode, accountFields, linkFields, inOrder, dataOctets, isFull, valuesGood, codeByTag, tagAt, nextCode, goodField, goodAccounts, goodLinks, readImage}
 use Rattle.image_read.proofs.Checks.{code-good, order-link, order-end}
 use Rattle.image_read.proofs.Accepted.{good-by, good-tag, good-code, good-passes, link-first}
 use Rattle.image_read.proofs.Reading.{end-accepted, head-passed}
@@ -47,26 +47,26 @@ head-code-by s l t n g =
 
 -- ---- a later field, by its tag: where it stands whole, in order and not one too many, it is good exactly where its values are
 module _ (s : List ℕ) (tag n m : ℕ) where
-  field-passes : standsAt s (fieldPlace n m) tag (dataOctets tag) ≡ true → inOrder tag n m ≡ true → isFull tag n m ≡ false
+  field-passes : standsAt s (fieldOffset n m) tag (dataOctets tag) ≡ true → inOrder tag n m ≡ true → isFull tag n m ≡ false
       → valuesGood s tag n m ≡ true → goodField s tag n m ≡ true
   unfolding nextCode
   field-passes w o f g =
-      let t = stands-tag s (fieldPlace n m) tag (dataOctets tag) w in
-      let l = stands-length s (fieldPlace n m) tag (dataOctets tag) w in
-      let h = stands-whole s (fieldPlace n m) tag (dataOctets tag) w in
+      let t = stands-tag s (fieldOffset n m) tag (dataOctets tag) w in
+      let l = stands-length s (fieldOffset n m) tag (dataOctets tag) w in
+      let h = stands-whole s (fieldOffset n m) tag (dataOctets tag) w in
       good-by s tag n m t
       (ap (codeByTag s n m) t
-      ∙ sym (code-good (fieldAt s (fieldPlace n m)) (inOrder tag n m) (dataOctets tag) (isFull tag n m) (valuesGood s tag n m)
-      (headed-by s (fieldPlace n m) (omega arith)) (ap not o) l (whole-by s (fieldPlace n m) (omega arith)) f g))
+      ∙ sym (code-good (fieldAt s (fieldOffset n m)) (inOrder tag n m) (dataOctets tag) (isFull tag n m) (valuesGood s tag n m)
+      (headed-by s (fieldOffset n m) (omega arith)) (ap not o) l (whole-by s (fieldOffset n m) (omega arith)) f g))
 
-  good-stands : goodField s tag n m ≡ true → standsAt s (fieldPlace n m) tag (dataOctets tag) ≡ true
+  good-stands : goodField s tag n m ≡ true → standsAt s (fieldOffset n m) tag (dataOctets tag) ≡ true
   good-stands e =
       let p = good-passes s tag n m e in
       let w = p .whole in
-      stands-by s (fieldPlace n m) tag (dataOctets tag) (good-tag s tag n m e) (p .sized) (omega arith)
+      stands-by s (fieldOffset n m) tag (dataOctets tag) (good-tag s tag n m e) (p .sized) (omega arith)
 
-  module _ (at : ℕ) (p : at ≡ fieldPlace n m) (b : Bool) (e : b ≡ standsAt s at tag (dataOctets tag)) where
-    there : b ≡ standsAt s (fieldPlace n m) tag (dataOctets tag)
+  module _ (at : ℕ) (p : at ≡ fieldOffset n m) (b : Bool) (e : b ≡ standsAt s at tag (dataOctets tag)) where
+    there : b ≡ standsAt s (fieldOffset n m) tag (dataOctets tag)
     there = e ∙ ap (λ (x : ℕ). standsAt s x tag (dataOctets tag)) p
 
     field-unlike : not b ≡ true → false ≡ goodField s tag n m
@@ -87,23 +87,23 @@ link-ordered : (n j : ℕ) → 1 ≤ n → inOrder linkTag n j ≡ true
 link-ordered n j h = sym (order-link linkTag n j (λ q. omega arith) refl)
 
 module _ (s : List ℕ) where
-  pub account-passes : (i : ℕ) → standsAt s (fieldPlace i 0) accountTag accountOctets ≡ true → i < maxAccounts
+  pub account-passes : (i : ℕ) → standsAt s (fieldOffset i 0) accountTag accountOctets ≡ true → i < maxAccounts
       → accountGood (accountFields s) i ≡ true → goodField s accountTag i 0 ≡ true
   unfolding dataOctets isFull valuesGood
   account-passes i w h g = field-passes s accountTag i 0 w (account-ordered i) (lt-leb _ _ h) g
 
-  pub link-passes : (n j : ℕ) → 1 ≤ n → standsAt s (fieldPlace n j) linkTag linkOctets ≡ true → j < maxLinks
+  pub link-passes : (n j : ℕ) → 1 ≤ n → standsAt s (fieldOffset n j) linkTag linkOctets ≡ true → j < maxLinks
       → linkGood (accountFields s) (linkFields s n) n j ≡ true → goodField s linkTag n j ≡ true
   unfolding dataOctets isFull valuesGood
   link-passes n j p w h g = field-passes s linkTag n j w (link-ordered n j p) (lt-leb _ _ h) g
 
-  pub end-passes : (n m : ℕ) → 1 ≤ n → 1 ≤ m → standsAt s (fieldPlace n m) endTag 0 ≡ true → nextCode s n m ≡ 0
+  pub end-passes : (n m : ℕ) → 1 ≤ n → 1 ≤ m → standsAt s (fieldOffset n m) endTag 0 ≡ true → nextCode s n m ≡ 0
   unfolding dataOctets isFull valuesGood
   end-passes n m p q w =
       good-code s endTag n m
       (field-passes s endTag n m w (sym (order-end endTag n m (λ y. omega arith) (λ y. omega arith) (λ y. omega arith))) refl refl)
 
-module _ (s : List ℕ) (i at : ℕ) (p : at ≡ fieldPlace i 0) (b : Bool) (e : b ≡ standsAt s at accountTag accountOctets) where
+module _ (s : List ℕ) (i at : ℕ) (p : at ≡ fieldOffset i 0) (b : Bool) (e : b ≡ standsAt s at accountTag accountOctets) where
   pub account-unlike : not b ≡ true → false ≡ goodField s accountTag i 0
   unfolding dataOctets
   account-unlike = field-unlike s accountTag i 0 at p b e
@@ -112,7 +112,7 @@ module _ (s : List ℕ) (i at : ℕ) (p : at ≡ fieldPlace i 0) (b : Bool) (e :
   unfolding dataOctets isFull valuesGood
   account-valued h l = field-valued s accountTag i 0 at p b e h (account-ordered i) (lt-leb _ _ l)
 
-module _ (s : List ℕ) (n j at : ℕ) (p : at ≡ fieldPlace n j) (b : Bool) (e : b ≡ standsAt s at linkTag linkOctets) where
+module _ (s : List ℕ) (n j at : ℕ) (p : at ≡ fieldOffset n j) (b : Bool) (e : b ≡ standsAt s at linkTag linkOctets) where
   pub link-unlike : not b ≡ true → false ≡ goodField s linkTag n j
   unfolding dataOctets
   link-unlike = field-unlike s linkTag n j at p b e
@@ -122,8 +122,8 @@ module _ (s : List ℕ) (n j at : ℕ) (p : at ≡ fieldPlace n j) (b : Bool) (e
   link-valued h o l = field-valued s linkTag n j at p b e h (link-ordered n j o) (lt-leb _ _ l)
 
 -- no link before the first account
-pub links-none : (s : List ℕ) (n : ℕ) → n ≡ 0 → 0 ≡ linkCount s n
-unfolding linkCount
+pub links-none : (s : List ℕ) (n : ℕ) → n ≡ 0 → 0 ≡ goodLinks s n
+unfolding goodLinks
 links-none s n z =
     sym (leading-stop (λ j. goodField s linkTag n j) 0 maxLinks (leading-zero _)
     (split (goodField s linkTag n 0) (λ e. absurd (link-first s n 0 e z)) (λ e. e))
@@ -137,12 +137,12 @@ other-tag s tag n m d = ap (λ (b : Bool). b && eqb (nextCode s n m) 0) (ne-eqb 
 module _ (s : List ℕ) (n m : ℕ) (few : n ≤ maxAccounts) (some : 1 ≤ m) (few-l : m ≤ maxLinks) (h : headCode s ≡ 0)
     (rows : (i : ℕ) → i < n → goodField s accountTag i 0 ≡ true) (ls : (j : ℕ) → j < m → goodField s linkTag n j ≡ true)
     (first : tagAt s n 0 ≡ linkTag) (last : tagAt s n m ≡ endTag) (e : nextCode s n m ≡ 0) (l : length s ≡ imageLength n m) where
-  counts-accounts : accountCount s ≡ n
-  unfolding accountCount
+  counts-accounts : goodAccounts s ≡ n
+  unfolding goodAccounts
   counts-accounts = leading-is (λ i. goodField s accountTag i 0) n maxAccounts few rows (λ k. other-tag s accountTag n 0 (λ q. omega arith))
 
-  counts-links : linkCount s n ≡ m
-  unfolding linkCount
+  counts-links : goodLinks s n ≡ m
+  unfolding goodLinks
   counts-links = leading-is (λ j. goodField s linkTag n j) m maxLinks few-l ls (λ k. other-tag s linkTag n m (λ q. omega arith))
 
   pub reads-as : readImage s ≡ record { code = 0; offset = length s; settings = settingsOf (numberAt 4 s 4) n m }

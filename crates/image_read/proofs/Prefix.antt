@@ -17,8 +17,8 @@ use Rattle.lists.proofs.Leading.{leading-same}
 use Rattle.tables.proofs.Rows.{terms-same, link-same}
 use Rattle.tables.proofs.Rules.{account-good-same, link-good-same}
 use Rattle.fields.specs.Fields.{tagAndLength, fieldAt}
-use Rattle.image_layout.specs.Layout.{headTag, accountTag, linkTag, headOctets, headSize, accountSize, linkSize, fieldPlace, imageLength, maxAccounts, maxLinks, imagePrefix}
-use Rattle.image_read.specs.Read.{fieldCode, headGood, headCode, accountFields, linkFields, inOrder, dataOctets, isFull, valuesGood, tagAt, nextCode, goodField, accountCount, linkCount, readEnd, readImage}
+use Rattle.image_layout.specs.Layout.{headTag, accountTag, linkTag, headOctets, headSize, accountSize, linkSize, fieldOffset, imageLength, maxAccounts, maxLinks, imagePrefix}
+use Rattle.image_read.specs.Read.{fieldCode, headGood, headCode, accountFields, linkFields, inOrder, dataOctets, isFull, valuesGood, tagAt, nextCode, goodField, goodAccounts, goodLinks, readEnd, readImage}
 use Rattle.image_read.specs.Claims.{PrefixRead}
 use Rattle.image_read.proofs.Checks.{octets-account, octets-link, octets-end}
 use Rattle.image_read.proofs.Reading.{few-accounts, few-links, end-refused, end-surplus, end-accepted, head-refused, head-passed, by-end, by-reading}
@@ -65,22 +65,22 @@ module _ (s t : List ℕ) (same : (i : ℕ) → i < prefix → getD s i 0 ≡ ge
 
   -- rows of accounts and links, up to one too many
   account-same : (i : ℕ) → i ≤ maxAccounts → accountIn (accountFields s) i ≡ accountIn (accountFields t) i
-  unfolding fieldPlace
+  unfolding fieldOffset
   account-same i h = terms-same s t _ _ (λ k l. same _ (omega arith))
 
   module _ (n : ℕ) (few : n ≤ maxAccounts) where
     link-read-same : (j : ℕ) → j ≤ maxLinks → linkIn (linkFields s n) j ≡ linkIn (linkFields t n) j
-    unfolding fieldPlace
+    unfolding fieldOffset
     link-read-same j h = link-same s t _ _ (λ k l. same _ (omega arith))
 
     module _ (m : ℕ) (few-m : m ≤ maxLinks) where
-      -- the field behind n accounts and m links, and how many there are
-      place-low : fieldPlace n m + linkSize ≤ prefix
-      unfolding fieldPlace
-      place-low = omega arith
+      -- the field after n accounts and m links, and how many there are
+      offset-low : fieldOffset n m + linkSize ≤ prefix
+      unfolding fieldOffset
+      offset-low = omega arith
 
       tag-same : tagAt s n m ≡ tagAt t n m
-      tag-same = let p = place-low in same (fieldPlace n m) (omega arith)
+      tag-same = let p = offset-low in same (fieldOffset n m) (omega arith)
 
       values-same : (tag : ℕ) → valuesGood s tag n m ≡ valuesGood t tag n m
       unfolding valuesGood
@@ -94,22 +94,22 @@ module _ (s t : List ℕ) (same : (i : ℕ) → i < prefix → getD s i 0 ≡ ge
       next-same : nextCode s n m ≡ nextCode t n m
       unfolding nextCode
       next-same =
-          let p = place-low in
+          let p = offset-low in
           let d = small-data (tagAt s n m) in
-          code-same (fieldPlace n m) (inOrder (tagAt s n m) n m) (dataOctets (tagAt s n m)) (isFull (tagAt s n m) n m) _ _
+          code-same (fieldOffset n m) (inOrder (tagAt s n m) n m) (dataOctets (tagAt s n m)) (isFull (tagAt s n m) n m) _ _
           (omega arith) (values-same (tagAt s n m))
-          ∙ ap (λ (x : ℕ). fieldCode (fieldAt t (fieldPlace n m)) (inOrder x n m) (dataOctets x) (isFull x n m) (valuesGood t x n m)) tag-same
+          ∙ ap (λ (x : ℕ). fieldCode (fieldAt t (fieldOffset n m)) (inOrder x n m) (dataOctets x) (isFull x n m) (valuesGood t x n m)) tag-same
 
       field-same : (tag : ℕ) → goodField s tag n m ≡ goodField t tag n m
       unfolding goodField
       field-same tag = rw (tag-same, next-same)
 
-    links-same : linkCount s n ≡ linkCount t n
-    unfolding linkCount
+    links-same : goodLinks s n ≡ goodLinks t n
+    unfolding goodLinks
     links-same = leading-same (λ j. goodField s linkTag n j) (λ j. goodField t linkTag n j) maxLinks (λ j l. field-same j (omega arith) linkTag)
 
-  accounts-same : accountCount s ≡ accountCount t
-  unfolding accountCount
+  accounts-same : goodAccounts s ≡ goodAccounts t
+  unfolding goodAccounts
   accounts-same =
       leading-same (λ i. goodField s accountTag i 0) (λ i. goodField t accountTag i 0) maxAccounts
       (λ i l. field-same i (omega arith) 0 (omega arith) accountTag)
@@ -123,9 +123,9 @@ module _ (s t : List ℕ) (same : (i : ℕ) → i < prefix → getD s i 0 ≡ ge
 
   end-same : (n m : ℕ) → n ≤ maxAccounts → m ≤ maxLinks → readEnd s n m ≡ readEnd t n m
   end-same n m a b =
-      let p = place-low n a m b in
+      let p = offset-low n a m b in
       by-end s (λ q. q ≡ readEnd t n m) n m
-      (λ d. end-refused t n m (nextCode s n m) (next-same n a m b) d (fieldPlace n m) _ refl refl)
+      (λ d. end-refused t n m (nextCode s n m) (next-same n a m b) d (fieldOffset n m) _ refl refl)
       (λ z l.
       let l′ : imageLength n m < length t = ltb-true _ _ (sym (long (suc (imageLength n m)) (omega arith)) ∙ lt-ltb _ _ l) in
       end-surplus t n m (nextCode s n m) (next-same n a m b) z (imageLength n m) refl l′ _ refl)
@@ -140,13 +140,13 @@ module _ (s t : List ℕ) (same : (i : ℕ) → i < prefix → getD s i 0 ≡ ge
       by-reading s (λ q. q ≡ readImage t)
       (λ d. head-refused t (headCode s) head-same d _ refl)
       (λ z.
-      head-passed t (headCode s) head-same z (accountCount s) (linkCount s (accountCount s)) _
-      accounts-same (links-same (accountCount s) (few-accounts s))
-      (end-same (accountCount s) (linkCount s (accountCount s)) (few-accounts s) (few-links s (accountCount s))))
+      head-passed t (headCode s) head-same z (goodAccounts s) (goodLinks s (goodAccounts s)) _
+      accounts-same (links-same (goodAccounts s) (few-accounts s))
+      (end-same (goodAccounts s) (goodLinks s (goodAccounts s)) (few-accounts s) (few-links s (goodAccounts s))))
 
 -- ---- the prefix of a run
 prefix-is : imagePrefix ≡ prefix
-unfolding fieldPlace
+unfolding fieldOffset
 prefix-is = refl
 
 prefix-long : (s : List ℕ) (x : ℕ) → x ≤ prefix → leb x (length (take prefix s)) ≡ leb x (length s)

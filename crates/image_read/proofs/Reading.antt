@@ -10,51 +10,51 @@ use Rattle.tables.specs.Rows.{settingsOf}
 use Rattle.octets.specs.Numbers.{numberAt}
 use Rattle.lists.proofs.Tests.{split}
 use Rattle.lists.proofs.Leading.{leading-high}
-use Rattle.image_layout.specs.Layout.{accountTag, linkTag, fieldPlace, dataPlace, imageLength, maxAccounts, maxLinks}
-use Rattle.image_read.specs.Read.{headCode, nextCode, goodField, accountCount, linkCount, refused, readEnd, readImage}
-use Rattle.image_read.specs.declared.Loaded.{Loaded}
+use Rattle.image_layout.specs.Layout.{accountTag, linkTag, fieldOffset, dataOffset, imageLength, maxAccounts, maxLinks}
+use Rattle.image_read.specs.Read.{headCode, nextCode, goodField, goodAccounts, goodLinks, imageRefused, readEnd, readImage}
+use Rattle.image_read.specs.declared.ImageAnswer.{ImageAnswer}
 
 -- ---- counts are within the limits
-pub few-accounts : (s : List ℕ) → accountCount s ≤ maxAccounts
-unfolding accountCount
+pub few-accounts : (s : List ℕ) → goodAccounts s ≤ maxAccounts
+unfolding goodAccounts
 few-accounts s = leading-high (λ i. goodField s accountTag i 0) maxAccounts
 
-pub few-links : (s : List ℕ) (n : ℕ) → linkCount s n ≤ maxLinks
-unfolding linkCount
+pub few-links : (s : List ℕ) (n : ℕ) → goodLinks s n ≤ maxLinks
+unfolding goodLinks
 few-links s n = leading-high (λ j. goodField s linkTag n j) maxLinks
 
 -- ---- the answer at the last field
 module _ (s : List ℕ) (n m : ℕ) (code : ℕ) (e : code ≡ nextCode s n m) where
-  pub end-refused : (code ≡ 0 → ⊥) → (at : ℕ) (q : Loaded) → at ≡ fieldPlace n m → q ≡ refused code at → q ≡ readEnd s n m
+  pub end-refused : (code ≡ 0 → ⊥) → (at : ℕ) (q : ImageAnswer) → at ≡ fieldOffset n m → q ≡ imageRefused code at → q ≡ readEnd s n m
   unfolding readEnd
-  end-refused d at q p v = v ∙ ap₂ refused e p ∙ simp (ne-eqb _ _ (λ z. d (e ∙ z)))
+  end-refused d at q p v = v ∙ ap₂ imageRefused e p ∙ simp (ne-eqb _ _ (λ z. d (e ∙ z)))
 
-  module _ (z : code ≡ 0) (end : ℕ) (p : end ≡ dataPlace n m) where
-    pub end-surplus : end < length s → (q : Loaded) → q ≡ refused 25 end → q ≡ readEnd s n m
+  module _ (z : code ≡ 0) (end : ℕ) (p : end ≡ dataOffset n m) where
+    pub end-surplus : end < length s → (q : ImageAnswer) → q ≡ imageRefused 25 end → q ≡ readEnd s n m
     unfolding readEnd
-    end-surplus h q v = v ∙ ap (refused 25) p ∙ simp (eq-eqb _ _ (sym e ∙ z), lt-ltb _ _ (rw p at h))
+    end-surplus h q v = v ∙ ap (imageRefused 25) p ∙ simp (eq-eqb _ _ (sym e ∙ z), lt-ltb _ _ (rw p at h))
 
     pub end-accepted : length s ≤ end → (k : ℕ) → k ≡ numberAt 4 s 4
-        → _≡_ {A = Loaded} (record { code = 0; offset = length s; settings = settingsOf k n m }) (readEnd s n m)
+        → _≡_ {A = ImageAnswer} (record { code = 0; offset = length s; settings = settingsOf k n m }) (readEnd s n m)
     unfolding readEnd
     end-accepted h k c = rw c (simp (eq-eqb _ _ (sym e ∙ z), le-ltb _ _ (rw p at h)))
 
 -- ---- the answer
 module _ (s : List ℕ) (code : ℕ) (e : code ≡ headCode s) where
-  pub head-refused : (code ≡ 0 → ⊥) → (q : Loaded) → q ≡ refused code 0 → q ≡ readImage s
+  pub head-refused : (code ≡ 0 → ⊥) → (q : ImageAnswer) → q ≡ imageRefused code 0 → q ≡ readImage s
   unfolding readImage
-  head-refused d q v = v ∙ ap (λ (k : ℕ). refused k 0) e ∙ simp (ne-eqb _ _ (λ z. d (e ∙ z)))
+  head-refused d q v = v ∙ ap (λ (k : ℕ). imageRefused k 0) e ∙ simp (ne-eqb _ _ (λ z. d (e ∙ z)))
 
-  pub head-passed : code ≡ 0 → (n m : ℕ) (q : Loaded) → n ≡ accountCount s → m ≡ linkCount s n → q ≡ readEnd s n m → q ≡ readImage s
+  pub head-passed : code ≡ 0 → (n m : ℕ) (q : ImageAnswer) → n ≡ goodAccounts s → m ≡ goodLinks s n → q ≡ readEnd s n m → q ≡ readImage s
   unfolding readImage
   head-passed z n m q f g v =
-      v ∙ ap (readEnd s n) g ∙ ap (λ (k : ℕ). readEnd s k (linkCount s k)) f ∙ simp (eq-eqb _ _ (sym e ∙ z))
+      v ∙ ap (readEnd s n) g ∙ ap (λ (k : ℕ). readEnd s k (goodLinks s k)) f ∙ simp (eq-eqb _ _ (sym e ∙ z))
 
 -- ---- by cases of what reading answers
-module _ (s : List ℕ) (P : Loaded → Type 0) where
+module _ (s : List ℕ) (P : ImageAnswer → Type 0) where
   pub by-end : (n m : ℕ)
-      → ((nextCode s n m ≡ 0 → ⊥) → P (refused (nextCode s n m) (fieldPlace n m)))
-      → (nextCode s n m ≡ 0 → imageLength n m < length s → P (refused 25 (imageLength n m)))
+      → ((nextCode s n m ≡ 0 → ⊥) → P (imageRefused (nextCode s n m) (fieldOffset n m)))
+      → (nextCode s n m ≡ 0 → imageLength n m < length s → P (imageRefused 25 (imageLength n m)))
       → (nextCode s n m ≡ 0 → length s ≤ imageLength n m → P (record { code = 0; offset = length s; settings = settingsOf (numberAt 4 s 4) n m }))
       → P (readEnd s n m)
   unfolding readEnd
@@ -66,8 +66,8 @@ module _ (s : List ℕ) (P : Loaded → Type 0) where
       (λ l. simp (e, l) (h (eqb-true _ _ e) (ltb-false _ _ l))))
       (λ e. simp e (f (eqb-false _ _ e)))
 
-  pub by-reading : ((headCode s ≡ 0 → ⊥) → P (refused (headCode s) 0))
-      → (headCode s ≡ 0 → P (readEnd s (accountCount s) (linkCount s (accountCount s))))
+  pub by-reading : ((headCode s ≡ 0 → ⊥) → P (imageRefused (headCode s) 0))
+      → (headCode s ≡ 0 → P (readEnd s (goodAccounts s) (goodLinks s (goodAccounts s))))
       → P (readImage s)
   unfolding readImage
   by-reading f g =
@@ -76,20 +76,20 @@ module _ (s : List ℕ) (P : Loaded → Type 0) where
       (λ e. simp e (f (eqb-false _ _ e)))
 
 -- ---- so are those of an answer
-abbrev pub Few : Loaded → Type 0
+abbrev pub Few : ImageAnswer → Type 0
 Few q = (q .settings .accounts ≤ maxAccounts) × (q .settings .links ≤ maxLinks)
 
 pub few-read : (s : List ℕ) → Few (readImage s)
 few-read s =
     by-reading s Few
     (λ d. (omega arith, omega arith))
-    (λ z. by-end s Few (accountCount s) (linkCount s (accountCount s))
+    (λ z. by-end s Few (goodAccounts s) (goodLinks s (goodAccounts s))
     (λ d. (omega arith, omega arith))
     (λ e h. (omega arith, omega arith))
-    (λ e h. (few-accounts s, few-links s (accountCount s))))
+    (λ e h. (few-accounts s, few-links s (goodAccounts s))))
 
-pub few-accounts-read : (s : List ℕ) (q : Loaded) → q ≡ readImage s → q .settings .accounts ≤ maxAccounts
+pub few-accounts-read : (s : List ℕ) (q : ImageAnswer) → q ≡ readImage s → q .settings .accounts ≤ maxAccounts
 few-accounts-read s q e = rw e (few-read s .0)
 
-pub few-links-read : (s : List ℕ) (q : Loaded) → q ≡ readImage s → q .settings .links ≤ maxLinks
+pub few-links-read : (s : List ℕ) (q : ImageAnswer) → q ≡ readImage s → q .settings .links ≤ maxLinks
 few-links-read s q e = rw e (few-read s .1)

@@ -8,7 +8,7 @@ use Rattle.tables.specs.Rows.{Config, accountIn, linkIn, settingsOf}
 use Rattle.tables.specs.declared.Link.{Link}
 use Rattle.image_layout.specs.Layout.{imageOf}
 use Rattle.image_read.specs.Read.{accountFields, linkFields, readImage}
-use Rattle.image_read.specs.declared.Loaded.{Loaded}
+use Rattle.image_read.specs.declared.ImageAnswer.{ImageAnswer}
 
 abbrev pub accountP : List ℕ
 accountP = 0 ∷ 200 ∷ 0 ∷ 1 ∷ 244 ∷ 0 ∷ []
@@ -24,14 +24,14 @@ imageP =
     ++ (9 ∷ 0 ∷ 0 ∷ [])
 
 -- its constant field is 03 00 00 00; Smax 200, BAG 1,000 us, J 500 us, byte mode; link 7 on port 2 to port 3
-abbrev pub answerP : Loaded
+abbrev pub answerP : ImageAnswer
 answerP = record { code = 0; offset = 36; settings = settingsOf 50331648 1 1 }
 
-abbrev pub termsP : Terms
-termsP = record { smax = 200; k = 0; jitter = 500; mode = 0 }
+abbrev pub decodedAccountP : Terms
+decodedAccountP = record { smax = 200; k = 0; jitter = 500; mode = 0 }
 
-abbrev pub rowP : Link
-rowP = record { number = 7; port = 2; mask = 8; smallest = 64; largest = 200; account = 0 }
+abbrev pub decodedLinkP : Link
+decodedLinkP = record { number = 7; port = 2; mask = 8; smallest = 64; largest = 200; account = 0 }
 
 abbrev pub configP : Config
 configP = record { constant = 50331648; accounts = accountP; accountCount = 1; links = linkP; linkCount = 1 }
@@ -39,6 +39,6 @@ configP = record { constant = 50331648; accounts = accountP; accountCount = 1; l
 abbrev pub ImagePReads : Type 0
 ImagePReads =
     (readImage imageP ≡ answerP)
-    × (accountIn (accountFields imageP) 0 ≡ termsP)
-    × (linkIn (linkFields imageP 1) 0 ≡ rowP)
+    × (accountIn (accountFields imageP) 0 ≡ decodedAccountP)
+    × (linkIn (linkFields imageP 1) 0 ≡ decodedLinkP)
     × (imageOf configP ≡ imageP)

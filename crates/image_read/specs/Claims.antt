@@ -6,8 +6,8 @@ use mathlib.Core.List.{List, [], _∷_, List·Memᴰ}
 use lib.ListN.{length, take}
 use Rattle.lists.specs.Choice.{if_then_else_}
 use Rattle.image_layout.specs.Layout.{accountTag, linkTag, endTag, imageLength, maxAccounts, maxLinks, longestImage, imagePrefix}
-use Rattle.image_read.specs.Read.{headCode, tagAt, goodField, refused, readEnd, readImage}
-use Rattle.image_read.specs.declared.Loaded.{Loaded}
+use Rattle.image_read.specs.Read.{headCode, tagAt, goodField, imageRefused, readEnd, readImage}
+use Rattle.image_read.specs.declared.ImageAnswer.{ImageAnswer}
 
 -- demand 1: the codes that reading can answer
 abbrev pub ReadCodes : Type 0
@@ -27,8 +27,8 @@ AcceptedEnds =
 
 -- the same answer field by field: a good account or link is passed, and the first field that is neither ends the reading. From as
 -- many fields on as an image can have, the number k that are looked at never decides; 255 is no code of reading
-unfoldable pub walked : ℕ → List ℕ → ℕ → ℕ → Loaded
-walked zero s n m = refused 255 0
+unfoldable pub walked : ℕ → List ℕ → ℕ → ℕ → ImageAnswer
+walked zero s n m = imageRefused 255 0
 walked (suc k) s n m =
     if goodField s accountTag n m then walked k s (suc n) m
     else if goodField s linkTag n m then walked k s n (suc m)

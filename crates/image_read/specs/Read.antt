@@ -12,8 +12,8 @@ use Rattle.tables.specs.Rows.{accountOctets, linkOctets, settingsOf}
 use Rattle.tables.specs.Rules.{accountGood, linkGood}
 use Rattle.fields.specs.Fields.{tagAndLength, fieldAt}
 use Rattle.fields.specs.declared.Field.{Field}
-use Rattle.image_layout.specs.Layout.{headTag, accountTag, linkTag, endTag, edition, headOctets, fieldPlace, dataPlace, imageLength, maxAccounts, maxLinks, editionPlace, constantOf, constantGood}
-use Rattle.image_read.specs.declared.Loaded.{Loaded}
+use Rattle.image_layout.specs.Layout.{headTag, accountTag, linkTag, endTag, edition, headOctets, fieldOffset, dataOffset, imageLength, maxAccounts, maxLinks, editionOffset, constantOf, constantGood}
+use Rattle.image_read.specs.declared.ImageAnswer.{ImageAnswer}
 
 -- the checks of a field, in document 01's order: 20 without room for tag and length, 21 by the tag, 22 by the length, 20 without
 -- room for the data, 24 for one field too many, 23 for a value
@@ -29,22 +29,22 @@ fieldCode f order size full good =
 
 -- ---- the head: its edition, and the constant field
 unfoldable pub headGood : List ℕ → Bool
-headGood s = eqb (getD s editionPlace 0) edition && constantGood (constantOf s)
+headGood s = eqb (getD s editionOffset 0) edition && constantGood (constantOf s)
 
 unfoldable pub headCode : List ℕ → ℕ
 headCode s = fieldCode (fieldAt s 0) (eqb (fieldAt s 0 .tag) headTag) headOctets false (headGood s)
 
--- ---- the field behind n accounts and m links
+-- ---- the field after n accounts and m links
 
--- the data of fields of one size, the first at a place, as rows; those of the accounts, and of the links behind n accounts
+-- the data of fields of one size, the first at an offset, as rows; those of the accounts, and of the links after n accounts
 abbrev pub fieldRows : List ℕ → ℕ → ℕ → Rows
 fieldRows s first size = record { octets = s; first = first; step = tagAndLength + size }
 
 abbrev pub accountFields : List ℕ → Rows
-accountFields s = fieldRows s (dataPlace 0 0) accountOctets
+accountFields s = fieldRows s (dataOffset 0 0) accountOctets
 
 abbrev pub linkFields : List ℕ → ℕ → Rows
-linkFields s n = fieldRows s (dataPlace n 0) linkOctets
+linkFields s n = fieldRows s (dataOffset n 0) linkOctets
 
 -- first an account; then accounts or a link; then links or the end
 unfoldable pub inOrder : ℕ → ℕ → ℕ → Bool
@@ -70,36 +70,36 @@ valuesGood s tag n m =
 
 -- its code, or 0, for a tag; and for the tag that stands there
 abbrev pub codeByTag : List ℕ → ℕ → ℕ → ℕ → ℕ
-codeByTag s n m tag = fieldCode (fieldAt s (fieldPlace n m)) (inOrder tag n m) (dataOctets tag) (isFull tag n m) (valuesGood s tag n m)
+codeByTag s n m tag = fieldCode (fieldAt s (fieldOffset n m)) (inOrder tag n m) (dataOctets tag) (isFull tag n m) (valuesGood s tag n m)
 
 abbrev pub tagAt : List ℕ → ℕ → ℕ → ℕ
-tagAt s n m = fieldAt s (fieldPlace n m) .tag
+tagAt s n m = fieldAt s (fieldOffset n m) .tag
 
 unfoldable pub nextCode : List ℕ → ℕ → ℕ → ℕ
 nextCode s n m = codeByTag s n m (tagAt s n m)
 
--- ---- how many accounts stand behind the head, and how many links behind them, each of the tag and well
+-- ---- how many accounts stand after the head, and how many links after them, each of the tag and well
 unfoldable pub goodField : List ℕ → ℕ → ℕ → ℕ → Bool
 goodField s tag n m = eqb (tagAt s n m) tag && eqb (nextCode s n m) 0
 
-unfoldable pub accountCount : List ℕ → ℕ
-accountCount s = leading (λ i. goodField s accountTag i 0) maxAccounts
+unfoldable pub goodAccounts : List ℕ → ℕ
+goodAccounts s = leading (λ i. goodField s accountTag i 0) maxAccounts
 
-unfoldable pub linkCount : List ℕ → ℕ → ℕ
-linkCount s n = leading (λ j. goodField s linkTag n j) maxLinks
+unfoldable pub goodLinks : List ℕ → ℕ → ℕ
+goodLinks s n = leading (λ j. goodField s linkTag n j) maxLinks
 
 -- ---- the answer
-abbrev pub refused : ℕ → ℕ → Loaded
-refused code offset = record { code = code; offset = offset; settings = settingsOf 0 0 0 }
+abbrev pub imageRefused : ℕ → ℕ → ImageAnswer
+imageRefused code offset = record { code = code; offset = offset; settings = settingsOf 0 0 0 }
 
--- the field behind n accounts and m links ends the reading: it is refused, or it is the end
-unfoldable pub readEnd : List ℕ → ℕ → ℕ → Loaded
+-- the field after n accounts and m links ends the reading: it is refused, or it is the end
+unfoldable pub readEnd : List ℕ → ℕ → ℕ → ImageAnswer
 readEnd s n m =
-    if not (eqb (nextCode s n m) 0) then refused (nextCode s n m) (fieldPlace n m)
-    else if ltb (imageLength n m) (length s) then refused 25 (imageLength n m)
+    if not (eqb (nextCode s n m) 0) then imageRefused (nextCode s n m) (fieldOffset n m)
+    else if ltb (imageLength n m) (length s) then imageRefused 25 (imageLength n m)
     else record { code = 0; offset = length s; settings = settingsOf (constantOf s) n m }
 
-unfoldable pub readImage : List ℕ → Loaded
+unfoldable pub readImage : List ℕ → ImageAnswer
 readImage s =
-    if not (eqb (headCode s) 0) then refused (headCode s) 0
-    else readEnd s (accountCount s) (linkCount s (accountCount s))
+    if not (eqb (headCode s) 0) then imageRefused (headCode s) 0
+    else readEnd s (goodAccounts s) (goodLinks s (goodAccounts s))

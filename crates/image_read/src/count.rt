@@ -1,15 +1,15 @@
 // How many accounts and links an image has, and what reading it answers.
 ghost use mathlib.Core.Path.{_≡_};
-ghost use Rattle.image_read.specs.Read.{accountCount, linkCount, readEnd};
-use super::Loaded;
+ghost use Rattle.image_read.specs.Read.{goodAccounts, goodLinks, readEnd};
+use super::ImageAnswer;
 use super::field;
 use super::refused;
 use image_layout::codes;
 use tables::Settings;
 
-// The accounts behind the head, up to the first field that is none or is refused.
+// The accounts after the head, up to the first field that is none or is refused.
 pub(crate) fn count_accounts(image: &[u8]) -> u16
-    ensures { λ r. ⌜ r ≡ accountCount (now (image .entry)) ⌝ }
+    ensures { λ r. ⌜ r ≡ goodAccounts (now (image .entry)) ⌝ }
 {
     let mut i: u16 = 0;
     while i < image_layout::MAX_ACCOUNTS {
@@ -21,9 +21,9 @@ pub(crate) fn count_accounts(image: &[u8]) -> u16
     i
 }
 
-// The links behind the accounts, up to the first field that is none or is refused. Without accounts there are none.
+// The links after the accounts, up to the first field that is none or is refused. Without accounts there are none.
 pub(crate) fn count_links(image: &[u8], accounts: u16) -> u16
-    ensures { λ r. ⌜ r ≡ linkCount (now (image .entry)) accounts ⌝ }
+    ensures { λ r. ⌜ r ≡ goodLinks (now (image .entry)) accounts ⌝ }
 {
     if accounts == 0 {
         return 0;
@@ -38,24 +38,24 @@ pub(crate) fn count_links(image: &[u8], accounts: u16) -> u16
     j
 }
 
-// The answer at the field behind so many accounts and links: its code, or what the end says.
-pub(crate) fn read_end(image: &[u8], accounts: u16, links: u16) -> Loaded
+// The answer at the field after so many accounts and links: its code, or what the end says.
+pub(crate) fn read_end(image: &[u8], accounts: u16, links: u16) -> ImageAnswer
     ensures { λ r. ⌜ r ≡ readEnd (now (image .entry)) accounts links ⌝ }
 {
     let code = field::next_code(image, accounts, links);
     if code != 0 {
-        return refused(code, image_layout::field_place(accounts, links));
+        return refused(code, image_layout::field_offset(accounts, links));
     }
-    let end = image_layout::data_place(accounts, links);
+    let end = image_layout::data_offset(accounts, links);
     if end < image.len() {
         return refused(codes::SURPLUS, end);
     }
     let settings = Settings {
-        constant: octets::u32_at(image, image_layout::CONSTANT_PLACE),
+        constant: octets::u32_at(image, image_layout::CONSTANT_OFFSET),
         accounts: accounts as usize,
         links: links as usize,
     };
-    Loaded {
+    ImageAnswer {
         code: 0,
         offset: image.len(),
         settings,

@@ -40,10 +40,10 @@ fn field_code(field: Field, order: bool, size: usize, full: bool, good: bool) ->
 fn head_good(image: &[u8]) -> bool
     ensures { λ r. ⌜ r ≡ headGood (now (image .entry)) ⌝ }
 {
-    if octets::octet_at(image, image_layout::EDITION_PLACE) != image_layout::EDITION {
+    if octets::octet_at(image, image_layout::EDITION_OFFSET) != image_layout::EDITION {
         return false;
     }
-    image_layout::constant_good(octets::u32_at(image, image_layout::CONSTANT_PLACE))
+    image_layout::constant_good(octets::u32_at(image, image_layout::CONSTANT_OFFSET))
 }
 
 // The code of the head, or 0.
@@ -61,7 +61,7 @@ pub(crate) fn head_code(image: &[u8]) -> u8
     )
 }
 
-// Whether a tag may stand behind so many accounts and links.
+// Whether a tag may stand after so many accounts and links.
 fn in_order(tag: u8, accounts: u16, links: u16) -> bool
     ensures { λ r. ⌜ r ≡ inOrder tag accounts links ⌝ }
 {
@@ -103,7 +103,7 @@ fn is_full(tag: u8, accounts: u16, links: u16) -> bool
     false
 }
 
-// Whether the values of the field behind so many accounts and links keep their rules.
+// Whether the values of the field after so many accounts and links keep their rules.
 fn values_good(image: &[u8], tag: u8, accounts: u16, links: u16) -> bool
     ensures { λ r. ⌜ r ≡ valuesGood (now (image .entry)) tag accounts links ⌝ }
 {
@@ -123,11 +123,11 @@ fn values_good(image: &[u8], tag: u8, accounts: u16, links: u16) -> bool
     true
 }
 
-// The code of the field behind so many accounts and links, or 0.
+// The code of the field after so many accounts and links, or 0.
 pub(crate) fn next_code(image: &[u8], accounts: u16, links: u16) -> u8
     ensures { λ r. ⌜ r ≡ nextCode (now (image .entry)) accounts links ⌝ }
 {
-    let field = fields::read(image, image_layout::field_place(accounts, links));
+    let field = fields::read(image, image_layout::field_offset(accounts, links));
     let order = in_order(field.tag, accounts, links);
     let full = is_full(field.tag, accounts, links);
     let good = values_good(image, field.tag, accounts, links);
@@ -140,12 +140,12 @@ pub(crate) fn good_account(image: &[u8], i: u16) -> bool
     requires { ⌜ i < maxAccounts ⌝ }
     ensures { λ r. ⌜ r ≡ goodField (now (image .entry)) accountTag i 0 ⌝ }
 {
-    let at = image_layout::field_place(i, 0);
+    let at = image_layout::field_offset(i, 0);
     if !fields::stands(image, at, image_layout::ACCOUNT_TAG, ACCOUNT_LENGTH) {
         return false;
     }
     let row = at + fields::TAG_AND_LENGTH;
-    tables::terms_at(&image[row..row + tables::ACCOUNT_OCTETS], 0).in_limits()
+    tables::terms_at(&image[row..row + tables::ACCOUNT_OCTETS], 0).are_good()
 }
 
 // Whether the number of link j is above that of the link before it.
@@ -156,14 +156,14 @@ fn number_rises(image: &[u8], accounts: u16, j: u16, number: u16) -> bool
     if j == 0 {
         return true;
     }
-    octets::u16_at(image, image_layout::data_place(accounts, j - 1)) < number
+    octets::u16_at(image, image_layout::data_offset(accounts, j - 1)) < number
 }
 
 // Smax of an account of the image.
 fn smax_of(image: &[u8], account: u16) -> u16
     ensures { λ r. ⌜ r ≡ accountIn (accountFields (now (image .entry))) account .smax ⌝ }
 {
-    octets::u16_at(image, image_layout::data_place(account, 0))
+    octets::u16_at(image, image_layout::data_offset(account, 0))
 }
 
 // Whether the field after so many accounts and links is a link that passes every check.
@@ -171,7 +171,7 @@ pub(crate) fn good_link(image: &[u8], accounts: u16, j: u16) -> bool
     requires { ⌜ 1 ≤ accounts ⌝ ∗ ⌜ j < maxLinks ⌝ }
     ensures { λ r. ⌜ r ≡ goodField (now (image .entry)) linkTag accounts j ⌝ }
 {
-    let at = image_layout::field_place(accounts, j);
+    let at = image_layout::field_offset(accounts, j);
     if !fields::stands(image, at, image_layout::LINK_TAG, LINK_LENGTH) {
         return false;
     }

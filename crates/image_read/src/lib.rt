@@ -1,6 +1,6 @@
 // The configuration image: what reading any octets as one answers.
 ghost use mathlib.Core.Path.{_≡_};
-ghost use Rattle.image_read.specs.Read.{refused, readImage};
+ghost use Rattle.image_read.specs.Read.{imageRefused, readImage};
 
 mod count;
 mod field;
@@ -9,22 +9,22 @@ use tables::Settings;
 
 // What reading or loading an image answers: the code, the offset that it speaks of, and on success the settings that the
 // image names.
-pub struct Loaded {
+pub struct ImageAnswer {
     pub code: u8,
     pub offset: usize,
     pub settings: Settings,
 }
 
 // A refusal: the code and the offset, and zeros.
-pub fn refused(code: u8, offset: usize) -> Loaded
-    ensures { λ r. ⌜ r ≡ refused code offset ⌝ }
+pub fn refused(code: u8, offset: usize) -> ImageAnswer
+    ensures { λ r. ⌜ r ≡ imageRefused code offset ⌝ }
 {
     let settings = Settings {
         constant: 0,
         accounts: 0,
         links: 0,
     };
-    Loaded {
+    ImageAnswer {
         code,
         offset,
         settings,
@@ -32,7 +32,7 @@ pub fn refused(code: u8, offset: usize) -> Loaded
 }
 
 // What reading an image answers, whatever its octets.
-pub fn check(image: &[u8]) -> Loaded
+pub fn check(image: &[u8]) -> ImageAnswer
     ensures { λ r. ⌜ r ≡ readImage (now (image .entry)) ⌝ }
 {
     let code = field::head_code(image);

@@ -1,4 +1,4 @@
--- The fields of an image, found again in its octets; and octets that are laid out as fields, spelled as an image. Assumes nothing.
+-- The fields of an image, found again in its octets; and octets that are written out as fields, spelled as an image. Assumes nothing.
 use Prim.Native.Nat.{ℕ, _+_, _*_, _≤_, _<_}
 use mathlib.Core.List.{List, [], _∷_, _++_}
 use mathlib.Core.Path.{_≡_, sym, ap, ap₂, _∙_}
@@ -10,14 +10,14 @@ use Rattle.octets.specs.Runs.{octetsAt, joined}
 use Rattle.octets.proofs.Parts.{part-is, part-front, part-behind, part-join, part-whole, part-joined, joined-at, joined-same}
 use Rattle.tables.specs.Rows.{Config, accountOctets, linkOctets}
 use Rattle.fields.specs.Fields.{fieldOf, tagAndLength}
-use Rattle.image_layout.specs.Layout.{headTag, accountTag, linkTag, endTag, edition, imageOf, headSize, accountSize, linkSize, fieldPlace, imageLength}
+use Rattle.image_layout.specs.Layout.{headTag, accountTag, linkTag, endTag, edition, imageOf, headSize, accountSize, linkSize, fieldOffset, imageLength}
 use Rattle.fields.proofs.Fields.{length-field}
-use Rattle.image_octets.proofs.Laying.{length-fields, head-size, rowField, length-row-field}
+use Rattle.image_octets.proofs.Written.{length-fields, head-size, rowField, length-row-field}
 
 -- ---- where links stand
-place-link : (n j : ℕ) → fieldPlace n j ≡ fieldPlace n 0 + linkSize * j
-unfolding fieldPlace
-place-link n j = omega arith
+offset-link : (n j : ℕ) → fieldOffset n j ≡ fieldOffset n 0 + linkSize * j
+unfolding fieldOffset
+offset-link n j = omega arith
 
 -- ---- the fields of an image
 module _ (g : Config) where
@@ -30,15 +30,15 @@ module _ (g : Config) where
   abbrev links : List ℕ
   links = joined (rowField linkTag linkOctets (g .links)) (g .linkCount)
 
-  length-front : length (head ++ accounts) ≡ fieldPlace (g .accountCount) 0
-  unfolding fieldPlace
+  length-front : length (head ++ accounts) ≡ fieldOffset (g .accountCount) 0
+  unfolding fieldOffset
   length-front =
       let a = head-size (g .constant) in
       let b = length-fields accountTag accountOctets (g .accounts) (g .accountCount) in
       length-append head accounts ∙ omega arith
 
-  length-before-end : length (head ++ accounts ++ links) ≡ fieldPlace (g .accountCount) (g .linkCount)
-  unfolding fieldPlace
+  length-before-end : length (head ++ accounts ++ links) ≡ fieldOffset (g .accountCount) (g .linkCount)
+  unfolding fieldOffset
   length-before-end =
       let a = head-size (g .constant) in
       let b = length-fields accountTag accountOctets (g .accounts) (g .accountCount) in
@@ -57,8 +57,8 @@ module _ (g : Config) where
       ∙ part-front headSize head accounts 0 (omega arith)
       ∙ part-is headSize head 0 head a (λ k l. ap (λ (i : ℕ). getD head i 0) (zero-add k))
 
-  pub image-account : (i : ℕ) → i < g .accountCount → octetsAt accountSize (imageOf g) (fieldPlace i 0) ≡ rowField accountTag accountOctets (g .accounts) i
-  unfolding imageOf fieldPlace
+  pub image-account : (i : ℕ) → i < g .accountCount → octetsAt accountSize (imageOf g) (fieldOffset i 0) ≡ rowField accountTag accountOctets (g .accounts) i
+  unfolding imageOf fieldOffset
   image-account i h =
       let a = head-size (g .constant) in
       let b = length-append head accounts in
@@ -71,34 +71,34 @@ module _ (g : Config) where
       ∙ part-behind accountSize head accounts headSize (accountSize * i) a
       ∙ joined-at (rowField accountTag accountOctets (g .accounts)) accountSize (length-row-field accountTag accountOctets (g .accounts)) (g .accountCount) i h
 
-  pub image-link : (j : ℕ) → j < g .linkCount → octetsAt linkSize (imageOf g) (fieldPlace (g .accountCount) j) ≡ rowField linkTag linkOctets (g .links) j
+  pub image-link : (j : ℕ) → j < g .linkCount → octetsAt linkSize (imageOf g) (fieldOffset (g .accountCount) j) ≡ rowField linkTag linkOctets (g .links) j
   unfolding imageOf
   image-link j h =
-      let p : fieldPlace (g .accountCount) j ≡ fieldPlace (g .accountCount) 0 + linkSize * j = place-link (g .accountCount) j in
+      let p : fieldOffset (g .accountCount) j ≡ fieldOffset (g .accountCount) 0 + linkSize * j = offset-link (g .accountCount) j in
       let a = length-front in
       let c = length-append (head ++ accounts) links in
       let d = length-fields linkTag linkOctets (g .links) (g .linkCount) in
-      let q : fieldPlace (g .accountCount) 0 + linkSize * j + linkSize ≤ length (head ++ accounts ++ links) = omega arith in
+      let q : fieldOffset (g .accountCount) 0 + linkSize * j + linkSize ≤ length (head ++ accounts ++ links) = omega arith in
       ap (octetsAt linkSize (head ++ accounts ++ links ++ fieldOf endTag [])) p
-      ∙ part-front linkSize (head ++ accounts ++ links) (fieldOf endTag []) (fieldPlace (g .accountCount) 0 + linkSize * j) q
-      ∙ part-behind linkSize (head ++ accounts) links (fieldPlace (g .accountCount) 0) (linkSize * j) a
+      ∙ part-front linkSize (head ++ accounts ++ links) (fieldOf endTag []) (fieldOffset (g .accountCount) 0 + linkSize * j) q
+      ∙ part-behind linkSize (head ++ accounts) links (fieldOffset (g .accountCount) 0) (linkSize * j) a
       ∙ joined-at (rowField linkTag linkOctets (g .links)) linkSize (length-row-field linkTag linkOctets (g .links)) (g .linkCount) j h
 
-  pub image-end : octetsAt (tagAndLength + 0) (imageOf g) (fieldPlace (g .accountCount) (g .linkCount)) ≡ fieldOf endTag []
+  pub image-end : octetsAt (tagAndLength + 0) (imageOf g) (fieldOffset (g .accountCount) (g .linkCount)) ≡ fieldOf endTag []
   unfolding imageOf
   image-end =
-      ap (octetsAt (tagAndLength + 0) (head ++ accounts ++ links ++ fieldOf endTag [])) (sym (add-zero (fieldPlace (g .accountCount) (g .linkCount))))
-      ∙ part-behind (tagAndLength + 0) (head ++ accounts ++ links) (fieldOf endTag []) (fieldPlace (g .accountCount) (g .linkCount)) 0 length-before-end
+      ap (octetsAt (tagAndLength + 0) (head ++ accounts ++ links ++ fieldOf endTag [])) (sym (add-zero (fieldOffset (g .accountCount) (g .linkCount))))
+      ∙ part-behind (tagAndLength + 0) (head ++ accounts ++ links) (fieldOf endTag []) (fieldOffset (g .accountCount) (g .linkCount)) 0 length-before-end
       ∙ part-is (tagAndLength + 0) (fieldOf endTag []) 0 (fieldOf endTag []) (length-field endTag []) (λ k l. ap (λ (i : ℕ). getD (fieldOf endTag []) i 0) (zero-add k))
 
 -- ---- octets in which every field is spelled are the image
 pub image-spelled : (g : Config) (s : List ℕ) → length s ≡ imageLength (g .accountCount) (g .linkCount)
     → octetsAt headSize s 0 ≡ fieldOf headTag (edition ∷ octetsOf 4 (g .constant))
-    → ((i : ℕ) → i < g .accountCount → octetsAt accountSize s (fieldPlace i 0) ≡ rowField accountTag accountOctets (g .accounts) i)
-    → ((j : ℕ) → j < g .linkCount → octetsAt linkSize s (fieldPlace (g .accountCount) j) ≡ rowField linkTag linkOctets (g .links) j)
-    → octetsAt tagAndLength s (fieldPlace (g .accountCount) (g .linkCount)) ≡ fieldOf endTag []
+    → ((i : ℕ) → i < g .accountCount → octetsAt accountSize s (fieldOffset i 0) ≡ rowField accountTag accountOctets (g .accounts) i)
+    → ((j : ℕ) → j < g .linkCount → octetsAt linkSize s (fieldOffset (g .accountCount) j) ≡ rowField linkTag linkOctets (g .links) j)
+    → octetsAt tagAndLength s (fieldOffset (g .accountCount) (g .linkCount)) ≡ fieldOf endTag []
     → imageOf g ≡ s
-unfolding imageOf fieldPlace
+unfolding imageOf fieldOffset
 image-spelled g s l h a k e =
     let n : ℕ = g .accountCount in
     let m : ℕ = g .linkCount in

@@ -1,2 +1,2 @@
 pub mod Imaged
-pub mod Trips
+pub mod RoundTrips

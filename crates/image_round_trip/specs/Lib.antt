@@ -1,1 +1,1 @@
-pub mod Trips
+pub mod RoundTrips

@@ -10,7 +10,7 @@ use borrow.Author.Tests.{lt-ltb, le-ltb, ltb-true, ltb-false, le-leb, lt-leb, le
 use Rattle.octets.specs.Runs.{put}
 use Rattle.lists.proofs.Tests.{split, both}
 use Rattle.tables.specs.Rows.{Config, accountOctets, linkOctets}
-use Rattle.image_layout.specs.Layout.{maxAccounts, maxLinks, fieldPlace, imageLength, constantGood, imageOf}
+use Rattle.image_layout.specs.Layout.{maxAccounts, maxLinks, fieldOffset, imageLength, constantGood, imageOf}
 use Rattle.image_write.specs.Writing.{countGood, countsGood, badAccount, badLink, writtenOf, valueAnswer, writeAnswer, writingOf, writing}
 use Rattle.image_write.specs.declared.Written.{Written}
 
@@ -72,15 +72,15 @@ module _ (g : Config) (r : Bool) (e : r ≡ constantGood (g .constant)) where
   constant-bad h = simp (← e, not-true r h)
 
   module _ (h : not r ≡ false) (x : ℕ) (f : x ≡ badAccount g) where
-    pub account-bad : x < g .accountCount → (at : ℕ) → at ≡ fieldPlace x 0 → writtenOf 23 at ≡ valueAnswer g
+    pub account-bad : x < g .accountCount → (at : ℕ) → at ≡ fieldOffset x 0 → writtenOf 23 at ≡ valueAnswer g
     unfolding valueAnswer
-    account-bad k at p = ap (writtenOf 23) (p ∙ ap (λ (y : ℕ). fieldPlace y 0) f) ∙ simp (← e, not-false r h, lt-ltb _ _ (rw f at k))
+    account-bad k at p = ap (writtenOf 23) (p ∙ ap (λ (y : ℕ). fieldOffset y 0) f) ∙ simp (← e, not-false r h, lt-ltb _ _ (rw f at k))
 
     module _ (k : g .accountCount ≤ x) (y : ℕ) (q : y ≡ badLink g) where
-      pub link-bad : y < g .linkCount → (at : ℕ) → at ≡ fieldPlace (g .accountCount) y → writtenOf 23 at ≡ valueAnswer g
+      pub link-bad : y < g .linkCount → (at : ℕ) → at ≡ fieldOffset (g .accountCount) y → writtenOf 23 at ≡ valueAnswer g
       unfolding valueAnswer
       link-bad l at p =
-          ap (writtenOf 23) (p ∙ ap (fieldPlace (g .accountCount)) q) ∙ simp (← e, not-false r h, le-ltb _ _ (rw f at k), lt-ltb _ _ (rw q at l))
+          ap (writtenOf 23) (p ∙ ap (fieldOffset (g .accountCount)) q) ∙ simp (← e, not-false r h, le-ltb _ _ (rw f at k), lt-ltb _ _ (rw q at l))
 
       pub all-good : g .linkCount ≤ y → (at : ℕ) → at ≡ imageLength (g .accountCount) (g .linkCount) → writtenOf 0 at ≡ valueAnswer g
       unfolding valueAnswer
@@ -113,8 +113,8 @@ module _ (g : Config) (room : ℕ) (r : Bool) (e : r ≡ countsGood (g .accounts
 module _ (g : Config) (P : Written → Type 0) where
   pub by-values :
       (constantGood (g .constant) ≡ false → P (writtenOf 23 0))
-      → (badAccount g < g .accountCount → P (writtenOf 23 (fieldPlace (badAccount g) 0)))
-      → (badLink g < g .linkCount → P (writtenOf 23 (fieldPlace (g .accountCount) (badLink g))))
+      → (badAccount g < g .accountCount → P (writtenOf 23 (fieldOffset (badAccount g) 0)))
+      → (badLink g < g .linkCount → P (writtenOf 23 (fieldOffset (g .accountCount) (badLink g))))
       → (constantGood (g .constant) ≡ true → g .accountCount ≤ badAccount g → g .linkCount ≤ badLink g
       → P (writtenOf 0 (imageLength (g .accountCount) (g .linkCount))))
       → P (valueAnswer g)

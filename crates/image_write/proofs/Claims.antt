@@ -13,11 +13,11 @@ use Rattle.octets.proofs.Runs.{put-fits}
 use Rattle.tables.specs.Rows.{Config, accountTable, linkTable}
 use Rattle.tables.specs.Rules.{accountGood, linkGood}
 use Rattle.lists.proofs.Leading.{leading-is}
-use Rattle.image_layout.specs.Layout.{fieldPlace, imageLength, imageOf}
+use Rattle.image_layout.specs.Layout.{fieldOffset, imageLength, imageOf}
 use Rattle.image_write.specs.Writing.{countsGood, badAccount, badLink, writtenOf, valueAnswer, writeAnswer, Writing, writingOf, writing}
 use Rattle.image_write.specs.Claims.{WriteRefuses, WriteAccepts, FirstBadConstant, FirstBadAccount, FirstBadLink, WriteCodes, RefusedWriteKeeps, WriteOffsets, WritesImage, ImageLength}
 use Rattle.image_write.proofs.Answers.{writing-answer, counts-bad, room-short, room-enough, constant-bad, account-bad, link-bad, value-bad, by-values, by-writing, writing-refused}
-use Rattle.image_octets.proofs.Laying.{length-image}
+use Rattle.image_octets.proofs.Written.{length-image}
 
 -- by cases of what writing answers and leaves
 by-write : (g : Config) (d : List ℕ) (P : Writing → Type 0)
@@ -93,14 +93,14 @@ first-bad-constant g d e c = answered g d e 0 (constant-bad g false (sym c) refl
 pub first-bad-account : FirstBadAccount
 unfolding badAccount
 first-bad-account g d e c i l before bad =
-    answered g d e (fieldPlace i 0)
+    answered g d e (fieldOffset i 0)
     (account-bad g true (sym c) refl i
     (sym (leading-is (accountGood (accountTable (g .accounts))) i (g .accountCount) (omega arith) before (λ _. bad))) l _ refl)
 
 pub first-bad-link : FirstBadLink
 unfolding badAccount badLink
 first-bad-link g d e c all j l before bad =
-    answered g d e (fieldPlace (g .accountCount) j)
+    answered g d e (fieldOffset (g .accountCount) j)
     (link-bad g true (sym c) refl (g .accountCount)
     (sym (leading-is (accountGood (accountTable (g .accounts))) (g .accountCount) (g .accountCount) (omega arith) all (λ h. absurd (omega arith))))
     (omega arith) j

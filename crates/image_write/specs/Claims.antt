@@ -7,7 +7,7 @@ use mathlib.Core.Path.{_≡_}
 use lib.ListN.{length, drop}
 use Rattle.tables.specs.Rows.{Config, accountTable, linkTable}
 use Rattle.tables.specs.Rules.{accountGood, linkGood}
-use Rattle.image_layout.specs.Layout.{fieldPlace, imageLength, constantGood, imageOf}
+use Rattle.image_layout.specs.Layout.{fieldOffset, imageLength, constantGood, imageOf}
 use Rattle.image_write.specs.Writing.{countsGood, writtenOf, valueAnswer, writing}
 
 -- demand 1: the codes that writing can answer
@@ -50,7 +50,7 @@ abbrev pub FirstBadAccount : Type 0
 FirstBadAccount =
     (g : Config) (d : List ℕ) → countsGood (g .accounts) (g .accountCount) (g .links) (g .linkCount) ≡ true → constantGood (g .constant) ≡ true
     → (i : ℕ) → i < g .accountCount → ((k : ℕ) → k < i → accountGood (accountTable (g .accounts)) k ≡ true) → accountGood (accountTable (g .accounts)) i ≡ false
-    → writing g d .answer ≡ writtenOf 23 (fieldPlace i 0)
+    → writing g d .answer ≡ writtenOf 23 (fieldOffset i 0)
 
 abbrev pub FirstBadLink : Type 0
 FirstBadLink =
@@ -59,9 +59,9 @@ FirstBadLink =
     → (j : ℕ) → j < g .linkCount
     → ((k : ℕ) → k < j → linkGood (accountTable (g .accounts)) (linkTable (g .links)) (g .accountCount) k ≡ true)
     → linkGood (accountTable (g .accounts)) (linkTable (g .links)) (g .accountCount) j ≡ false
-    → writing g d .answer ≡ writtenOf 23 (fieldPlace (g .accountCount) j)
+    → writing g d .answer ≡ writtenOf 23 (fieldOffset (g .accountCount) j)
 
--- after success the room holds the image, and behind it what stood there
+-- after success the room holds the image, and after it what stood there
 abbrev pub WritesImage : Type 0
 WritesImage =
     (g : Config) (d : List ℕ) → writing g d .answer .code ≡ 0

@@ -9,7 +9,7 @@ use Rattle.octets.specs.Runs.{put}
 use Rattle.lists.specs.Leading.{leading}
 use Rattle.tables.specs.Rows.{Config, accountOctets, linkOctets, accountTable, linkTable}
 use Rattle.tables.specs.Rules.{accountGood, linkGood}
-use Rattle.image_layout.specs.Layout.{maxAccounts, maxLinks, fieldPlace, imageLength, constantGood, imageOf}
+use Rattle.image_layout.specs.Layout.{maxAccounts, maxLinks, fieldOffset, imageLength, constantGood, imageOf}
 use Rattle.image_write.specs.declared.Written.{Written}
 
 -- a count is from 1 to its limit, and rows of w octets are lent for it
@@ -33,8 +33,8 @@ writtenOf code offset = record { code = code; offset = offset }
 unfoldable pub valueAnswer : Config → Written
 valueAnswer g =
     if not (constantGood (g .constant)) then writtenOf 23 0
-    else if ltb (badAccount g) (g .accountCount) then writtenOf 23 (fieldPlace (badAccount g) 0)
-    else if ltb (badLink g) (g .linkCount) then writtenOf 23 (fieldPlace (g .accountCount) (badLink g))
+    else if ltb (badAccount g) (g .accountCount) then writtenOf 23 (fieldOffset (badAccount g) 0)
+    else if ltb (badLink g) (g .linkCount) then writtenOf 23 (fieldOffset (g .accountCount) (badLink g))
     else writtenOf 0 (imageLength (g .accountCount) (g .linkCount))
 
 -- 24, then 23, then 26 for a room of this length
@@ -53,7 +53,7 @@ pub record Writing : Type 0 where
 abbrev pub writingOf : Written → List ℕ → Writing
 writingOf q d = record { answer = q; room = d }
 
--- a refusal writes nothing; success lays the image at the room's start
+-- a refusal writes nothing; success writes the image at the room's start
 unfoldable pub writing : Config → List ℕ → Writing
 writing g d =
     if eqb (writeAnswer g (length d) .code) 0

@@ -68,7 +68,7 @@ fn write_answer(
     if answer.code != 0 {
         return answer;
     }
-    if room < image_layout::data_place(n as u16, m as u16) {
+    if room < image_layout::data_offset(n as u16, m as u16) {
         return Written {
             code: codes::NO_ROOM,
             offset: 0,
@@ -77,7 +77,7 @@ fn write_answer(
     answer
 }
 
-// Writes the image of the first rows of two tables. After any code but 0 the room is as it was; after 0 the octets behind
+// Writes the image of the first rows of two tables. After any code but 0 the room is as it was; after 0 the octets after
 // the image are.
 pub fn write(
     constant: u32,

@@ -70,18 +70,18 @@ pub(crate) fn value_answer(constant: u32, accounts: &[u8], n: u16, links: &[u8],
     if account < n {
         return Written {
             code: codes::BAD_VALUE,
-            offset: image_layout::field_place(account, 0),
+            offset: image_layout::field_offset(account, 0),
         };
     }
     let link = bad_link(accounts, n, links, m);
     if link < m {
         return Written {
             code: codes::BAD_VALUE,
-            offset: image_layout::field_place(n, link),
+            offset: image_layout::field_offset(n, link),
         };
     }
     Written {
         code: 0,
-        offset: image_layout::data_place(n, m),
+        offset: image_layout::data_offset(n, m),
     }
 }

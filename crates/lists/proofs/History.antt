@@ -45,7 +45,7 @@ unfolding answers final
 final-answers rule [] past = refl
 final-answers rule (c ∷ h) past = final-answers rule h (rule past c ∷ past)
 
--- ---- a simulation, on the calls of a list: from states that R relates, n answers what m's answer tells, and R relates what they
+-- ---- a simulation, on the calls of a list: from states that R relates, n answers what m's answer reports, and R relates what they
 -- leave
 pub record Simulates {S T C A B : Type 0} (m : Machine S C A) (n : Machine T C B)
     (tells : A → B) (R : T → S → Type 0) (h : List C) : Type 0 where

@@ -10,7 +10,7 @@ use lib.Dec.{leb}
 use lib.ListN.{length, getD, set, replicate, replicate-append-replicate}
 use Rattle.octets.specs.Runs.{octetsAt, joined, put}
 use Rattle.octets.proofs.Parts.{length-joined, row-below}
-use Rattle.octets.proofs.Runs.{put-none, put-one, put-after, put-refused, getD-put-behind, length-laid}
+use Rattle.octets.proofs.Runs.{put-none, put-one, put-after, put-refused, getD-put-behind, length-written}
 
 -- e is d with the first i of the n pieces f 0, f 1, .. written from `at` on; each piece has w elements and d has room for all
 pub record Filled (d : List ℕ) (at w : ℕ) (f : ℕ → List ℕ) (n i : ℕ) (e : List ℕ) : Type 0 where
@@ -54,7 +54,7 @@ module _ {d : List ℕ} {at w : ℕ} {f : ℕ → List ℕ} {n : ℕ} where
             room = b .room;
             below = omega arith;
             is = rw (add-one i) (v ∙ rw (b .is, x) (put-after d at (joined f i) (f i) p (omega arith) (omega arith)));
-            long = length-laid e p xs r v ∙ b .long;
+            long = length-written e p xs r v ∙ b .long;
           }
 
 -- where the test finds no room for all pieces, nothing is written

@@ -41,7 +41,7 @@ number-first s at x h e =
     sym (add-zero (x * 256))
     ∙ number-halves 1 s at x 0 (e ∙ sym (number-one s at)) (sym (number-past 1 s (at + 1) (omega arith)))
 
--- the same octets at two places spell the same number
+-- the same octets at two offsets spell the same number
 pub number-shift : (w : ℕ) (s t : List ℕ) (a b : ℕ) → ((k : ℕ) → k < w → getD s (a + k) 0 ≡ getD t (b + k) 0) → numberAt w s a ≡ numberAt w t b
 unfolding numberAt
 number-shift zero s t a b h = refl

@@ -64,7 +64,7 @@ part-is w s at xs l h =
     let p = length-part w s at in
     ext-getD 0 (octetsAt w s at) xs (omega arith) (λ k b. getD-part w s at k (omega arith) ∙ h k (omega arith))
 
--- the same octets at two places
+-- the same octets at two offsets
 pub part-same : (w : ℕ) (s t : List ℕ) (a b : ℕ) → ((k : ℕ) → k < w → getD s (a + k) 0 ≡ getD t (b + k) 0) → octetsAt w s a ≡ octetsAt w t b
 part-same w s t a b h = part-is w s a (octetsAt w t b) (length-part w t b) (λ k l. h k l ∙ sym (getD-part w t b k l))
 
@@ -99,7 +99,7 @@ part-join v (suc w) s at =
     rw (add-suc v w)
     (rw (part-join v w s at, add-assoc at v w) (append-assoc (octetsAt v s at) (octetsAt w s (at + v)) (getD s (at + (v + w)) 0 ∷ [])))
 
--- in the front of two runs, and behind it
+-- in the front of two runs, and after it
 pub part-front : (w : ℕ) (xs ys : List ℕ) (at : ℕ) → at + w ≤ length xs → octetsAt w (xs ++ ys) at ≡ octetsAt w xs at
 part-front w xs ys at h = part-same w (xs ++ ys) xs at at (λ k l. List·getD-append xs ys 0 (at + k) (omega arith))
 
@@ -130,7 +130,7 @@ module _ (f : ℕ → List ℕ) (w : ℕ) (each : (i : ℕ) → length (f i) ≡
   length-joined zero = sym (mul-zero w)
   length-joined (suc n) = length-append (joined f n) (f n) ∙ ap₂ _+_ (length-joined n) (each n) ∙ sym (mul-suc w n)
 
-  -- each is found at its place
+  -- each is found at its offset
   pub joined-at : (n i : ℕ) → i < n → octetsAt w (joined f n) (w * i) ≡ f i
   unfolding joined
   joined-at zero i h = absurd (omega arith)

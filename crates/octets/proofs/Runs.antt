@@ -1,4 +1,4 @@
--- Laws of runs laid into a longer run. Assumes nothing.
+-- Laws of runs written into a longer run. Assumes nothing.
 use Prim.Native.Nat.{ℕ, _+_, _-_, _/_, _%_, _^_, _≤_, _<_}
 use mathlib.Core.Path.{_≡_, sym, ap, _∙_}
 use mathlib.Core.Bool.{Bool, true, not}
@@ -38,7 +38,7 @@ module _ (d : List ℕ) (at : ℕ) (xs : List ℕ) where
       ∙ omega (arith, length-front h, length-drop (at + length xs) d))
       (λ e. ap length (put-no-room (leb-false _ _ e)))
 
-  -- what was laid is read there
+  -- what was written is read there
   pub getD-put : at + length xs ≤ length d → (k : ℕ) → k < length xs → getD (put d at xs) (at + k) 0 ≡ getD xs k 0
   getD-put h k l =
       let e : length (take at d) ≡ at = length-take-le at d (omega arith) in
@@ -47,7 +47,7 @@ module _ (d : List ℕ) (at : ℕ) (xs : List ℕ) where
       ∙ ap (λ (a : ℕ). getD (take at d ++ xs) (a + k) 0) (sym e)
       ∙ getD-append-add (take at d) xs k 0
 
-  -- what stands before it and behind it is as it was
+  -- what stands before it and after it is as it was
   pub getD-put-before : (k : ℕ) → k < at → getD (put d at xs) k 0 ≡ getD d k 0
   getD-put-before k l =
       split (leb (at + length xs) (length d))
@@ -75,7 +75,7 @@ module _ (d : List ℕ) (at : ℕ) (xs : List ℕ) where
       ∙ ap (λ (i : ℕ). getD d i 0) b)
       (λ e. ap (λ (r : List ℕ). getD r k 0) (put-no-room (leb-false _ _ e)))
 
-  -- a run laid right behind another
+  -- a run written right after another
   pub put-beside : (ys : List ℕ) → at + length xs + length ys ≤ length d → put (put d at xs) (at + length xs) ys ≡ put d at (xs ++ ys)
   put-beside ys h =
       let k : at + length xs ≤ length d = omega arith in
@@ -95,7 +95,7 @@ put-two d at x f h =
     ap (λ (high : ℕ). set (set d at high) (at + 1) (x % 256)) (sym q)
     ∙ rw (add-one at) (sets-eq (x / 256 % 256 ∷ x % 256 ∷ []) d at h ∙ sym (put-fits d at (x / 256 % 256 ∷ x % 256 ∷ []) h))
 
--- a number's two halves laid side by side
+-- a number's two halves written side by side
 pub put-halves : (w : ℕ) (d : List ℕ) (at x : ℕ) → at + (w + w) ≤ length d
     → put (put d at (octetsOf w (x / 256 ^ w))) (at + w) (octetsOf w (x % 256 ^ w)) ≡ put d at (octetsOf (w + w) x)
 put-halves w d at x h =
@@ -109,7 +109,7 @@ pub put-both : (w : ℕ) (d : List ℕ) (at x : ℕ) (e f : List ℕ) → at + (
     → e ≡ put d at (octetsOf w (x / 256 ^ w)) → f ≡ put e (at + w) (octetsOf w (x % 256 ^ w)) → f ≡ put d at (octetsOf (w + w) x)
 put-both w d at x e f h p q = q ∙ ap (λ (r : List ℕ). put r (at + w) (octetsOf w (x % 256 ^ w))) p ∙ put-halves w d at x h
 
--- where the test finds no room nothing is laid
+-- where the test finds no room nothing is written
 pub put-refused : (d : List ℕ) (at : ℕ) (xs : List ℕ) (r : Bool) (size : ℕ) → r ≡ leb (at + size) (length d) → length xs ≡ size → not r ≡ true → d ≡ put d at xs
 put-refused d at xs r size e l h =
     let k : length d < at + size = no-room (length d) at size r e h in
@@ -119,7 +119,7 @@ put-refused d at xs r size e l h =
 pub put-one : (d : List ℕ) (at x : ℕ) → at < length d → set d at x ≡ put d at (x ∷ [])
 put-one d at x h = sets-eq (x ∷ []) d at (omega arith) ∙ sym (put-fits d at (x ∷ []) (omega arith))
 
--- an element stored right behind a run
+-- an element stored right after a run
 pub put-next : (d : List ℕ) (at : ℕ) (xs : List ℕ) (x : ℕ) → at + length xs < length d → set (put d at xs) (at + length xs) x ≡ put d at (xs ++ (x ∷ []))
 put-next d at xs x h =
     put-one (put d at xs) (at + length xs) x (rw (length-put d at xs) h)
@@ -132,7 +132,7 @@ put-none d at =
     (λ e. put-fits d at [] (leb-true _ _ e) ∙ ap (λ (i : ℕ). take at d ++ [] ++ drop i d) (add-zero at) ∙ ap (λ (xs : List ℕ). xs ++ drop at d) (append-nil (take at d)) ∙ take-append-drop at d)
     (λ e. put-no-room d at [] (leb-false _ _ e))
 
--- a part laid at its own place again
+-- a part written at its own offset again
 pub put-own : (w : ℕ) (d : List ℕ) (at : ℕ) → put d at (octetsAt w d at) ≡ d
 put-own w d at =
     let xs : List ℕ = octetsAt w d at in
@@ -147,11 +147,11 @@ put-own w d at =
     ∙ take-append-drop (at + w) d)
     (λ e. let h : length d < at + w = leb-false _ _ e in put-no-room d at xs (omega arith))
 
--- a run as long as the one it was laid into
-pub length-laid : (d : List ℕ) (at : ℕ) (xs e : List ℕ) → e ≡ put d at xs → length e ≡ length d
-length-laid d at xs e v = ap length v ∙ length-put d at xs
+-- a run as long as the one it was written into
+pub length-written : (d : List ℕ) (at : ℕ) (xs e : List ℕ) → e ≡ put d at xs → length e ≡ length d
+length-written d at xs e v = ap length v ∙ length-put d at xs
 
--- ---- a run laid behind another, at a place that is known to be there
+-- ---- a run written after another, at an offset that is known to be there
 pub put-after : (d : List ℕ) (at : ℕ) (xs ys : List ℕ) (p : ℕ) → p ≡ at + length xs → p + length ys ≤ length d → put (put d at xs) p ys ≡ put d at (xs ++ ys)
 put-after d at xs ys p e h =
     ap (λ (q : ℕ). put (put d at xs) q ys) e ∙ put-beside d at xs ys (rw e at h)

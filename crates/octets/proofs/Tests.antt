@@ -8,7 +8,7 @@ use lib.Dec.{leb}
 use borrow.Author.Tests.{leb-true, leb-false, lt-leb, not-true, not-false}
 use Rattle.lists.proofs.Tests.{leb-same}
 
--- ---- the test of room for `size` octets at a place in a run of `len`
+-- ---- the test of room for `size` octets at an offset in a run of `len`
 module _ (len at size : ℕ) where
   pub room-none : len < size → false ≡ leb (at + size) len
   room-none h = sym (lt-leb (at + size) len (omega arith))

@@ -6,13 +6,13 @@ use lib.ListN.{length, getD}
 use Rattle.octets.specs.Numbers.{numberAt, octetsOf}
 use Rattle.octets.specs.Runs.{put}
 
--- a number that is laid where it has room reads back
+-- a number that is written where it has room reads back
 abbrev pub ReadsBack : Type 0
 ReadsBack =
     (w : ℕ) (d : List ℕ) (at x : ℕ) → at + w ≤ length d → x < 256 ^ w
     → numberAt w (put d at (octetsOf w x)) at ≡ x
 
--- a number that was read, laid at its own place again, leaves the octets as they were
+-- a number that was read, written at its own offset again, leaves the octets as they were
 abbrev pub WritesBack : Type 0
 WritesBack =
     (w : ℕ) (d : List ℕ) (at : ℕ) → ((i : ℕ) → getD d i 0 < 256)

@@ -1,4 +1,4 @@
--- Runs of octets: a part of one, several one after the other, and one laid into a longer run, which is what a write leaves in
+-- Runs of octets: a part of one, several one after the other, and one written into a longer run, which is what a write leaves in
 -- the room that it is lent. Document 01 has no rule of its own for these; an octet past the end counts as 0, and a write that has
 -- no room leaves everything as it was.
 use Prim.Native.Nat.{ℕ, zero, suc, _+_}
@@ -7,7 +7,7 @@ use lib.ListN.{length, getD, take, drop}
 use lib.Dec.{leb}
 use Rattle.lists.specs.Choice.{if_then_else_}
 
--- the w octets from a place on; an octet past the end counts as 0
+-- the w octets from an offset on; an octet past the end counts as 0
 unfoldable pub octetsAt : ℕ → List ℕ → ℕ → List ℕ
 octetsAt zero s at = []
 octetsAt (suc w) s at = octetsAt w s at ++ (getD s (at + w) 0 ∷ [])
@@ -17,7 +17,7 @@ unfoldable pub joined : (ℕ → List ℕ) → ℕ → List ℕ
 joined f zero = []
 joined f (suc n) = joined f n ++ f n
 
--- d with xs from a place on; d as it is where it has no room for the whole of xs there
+-- d with xs from an offset on; d as it is where it has no room for the whole of xs there
 unfoldable pub put : List ℕ → ℕ → List ℕ → List ℕ
 put d at xs =
     if leb (at + length xs) (length d)

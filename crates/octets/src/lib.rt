@@ -13,7 +13,7 @@ pub fn least(a: usize, b: usize) -> usize
     if a <= b { a } else { b }
 }
 
-// Whether a run of `size` octets fits at a place in a run of `len`.
+// Whether a run of `size` octets fits at an offset in a run of `len`.
 pub fn has_room(len: usize, at: usize, size: usize) -> bool
     ensures { λ r. ⌜ r ≡ leb (at + size) len ⌝ }
 {
@@ -23,7 +23,7 @@ pub fn has_room(len: usize, at: usize, size: usize) -> bool
     at <= len - size
 }
 
-// The octet at a place.
+// The octet at an offset.
 pub fn octet_at(s: &[u8], at: usize) -> u8
     ensures { λ r. ⌜ r ≡ getD (now (s .entry)) at 0 ⌝ }
 {
@@ -59,7 +59,7 @@ fn whole_u64(s: &[u8], at: usize) -> u64
     (whole_u32(s, at) as u64) * 4294967296 + (whole_u32(s, at + 4) as u64)
 }
 
-// The number of the two octets from a place on.
+// The number of the two octets from an offset on.
 pub fn u16_at(s: &[u8], at: usize) -> u16
     ensures { λ r. ⌜ r ≡ numberAt 2 (now (s .entry)) at ⌝ }
 {
@@ -69,7 +69,7 @@ pub fn u16_at(s: &[u8], at: usize) -> u16
     (octet_at(s, at) as u16) * 256
 }
 
-// The number of the four octets from a place on.
+// The number of the four octets from an offset on.
 pub fn u32_at(s: &[u8], at: usize) -> u32
     ensures { λ r. ⌜ r ≡ numberAt 4 (now (s .entry)) at ⌝ }
 {
@@ -82,7 +82,7 @@ pub fn u32_at(s: &[u8], at: usize) -> u32
     (u16_at(s, at) as u32) * 65536 + (u16_at(s, at + 2) as u32)
 }
 
-// The number of the eight octets from a place on.
+// The number of the eight octets from an offset on.
 pub fn u64_at(s: &[u8], at: usize) -> u64
     ensures { λ r. ⌜ r ≡ numberAt 8 (now (s .entry)) at ⌝ }
 {

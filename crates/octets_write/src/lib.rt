@@ -1,4 +1,4 @@
-// Laying octets into lent runs: numbers of 2, 4 and 8 octets, the high octet first, and a part of one run copied into
+// Writing octets into lent runs: numbers of 2, 4 and 8 octets, the high octet first, and a part of one run copied into
 // another. Every function is total: what has no room is not written at all.
 ghost use mathlib.Core.Path.{_≡_};
 ghost use Prim.Native.Nat.{_+_, _≤_};
@@ -6,7 +6,7 @@ ghost use lib.ListN.{length};
 ghost use Rattle.octets.specs.Numbers.{octetsOf};
 ghost use Rattle.octets.specs.Runs.{octetsAt, put};
 
-// The two octets of x laid from a place on.
+// The two octets of x written from an offset on.
 pub fn put_u16(to: &mut [u8], at: usize, x: u16)
     ensures { λ r. ⌜ now (to .exit) ≡ put (now (to .entry)) at (octetsOf 2 x) ⌝ }
 {
@@ -17,7 +17,7 @@ pub fn put_u16(to: &mut [u8], at: usize, x: u16)
     to[at + 1] = (x % 256) as u8;
 }
 
-// The four octets of x laid from a place on.
+// The four octets of x written from an offset on.
 pub fn put_u32(to: &mut [u8], at: usize, x: u32)
     ensures { λ r. ⌜ now (to .exit) ≡ put (now (to .entry)) at (octetsOf 4 x) ⌝ }
 {
@@ -28,7 +28,7 @@ pub fn put_u32(to: &mut [u8], at: usize, x: u32)
     put_u16(to, at + 2, (x % 65536) as u16);
 }
 
-// The eight octets of x laid from a place on.
+// The eight octets of x written from an offset on.
 pub fn put_u64(to: &mut [u8], at: usize, x: u64)
     ensures { λ r. ⌜ now (to .exit) ≡ put (now (to .entry)) at (octetsOf 8 x) ⌝ }
 {
@@ -39,41 +39,41 @@ pub fn put_u64(to: &mut [u8], at: usize, x: u64)
     put_u32(to, at + 4, (x % 4294967296) as u32);
 }
 
-// Octets that are all there copied to a place that has room for them: no test for each octet.
-fn copy_whole(from: &[u8], at: usize, size: usize, to: &mut [u8], place: usize)
-    requires { ⌜ at + size ≤ length (now from) ⌝ ∗ ⌜ place + size ≤ length (now to) ⌝ }
-    ensures { λ r. ⌜ now (to .exit) ≡ put (now (to .entry)) place (octetsAt size (now (from .entry)) at) ⌝ }
+// Octets that are all there copied to an offset that has room for them: no test for each octet.
+fn copy_whole(from: &[u8], at: usize, size: usize, to: &mut [u8], offset: usize)
+    requires { ⌜ at + size ≤ length (now from) ⌝ ∗ ⌜ offset + size ≤ length (now to) ⌝ }
+    ensures { λ r. ⌜ now (to .exit) ≡ put (now (to .entry)) offset (octetsAt size (now (from .entry)) at) ⌝ }
 {
     let mut i = 0;
     while i < size {
-        to[place + i] = from[at + i];
+        to[offset + i] = from[at + i];
         i += 1;
     }
 }
 
-// Octets of which some are past the end, and so 0, copied to such a place.
-fn copy_padded(from: &[u8], at: usize, size: usize, to: &mut [u8], place: usize)
-    requires { ⌜ place + size ≤ length (now to) ⌝ }
-    ensures { λ r. ⌜ now (to .exit) ≡ put (now (to .entry)) place (octetsAt size (now (from .entry)) at) ⌝ }
+// Octets of which some are past the end, and so 0, copied to such an offset.
+fn copy_padded(from: &[u8], at: usize, size: usize, to: &mut [u8], offset: usize)
+    requires { ⌜ offset + size ≤ length (now to) ⌝ }
+    ensures { λ r. ⌜ now (to .exit) ≡ put (now (to .entry)) offset (octetsAt size (now (from .entry)) at) ⌝ }
 {
     let start = octets::least(at, from.len());
     let mut i = 0;
     while i < size {
-        to[place + i] = octets::octet_at(from, start + i);
+        to[offset + i] = octets::octet_at(from, start + i);
         i += 1;
     }
 }
 
-// A part of a run copied to a place in another: `size` octets from `at` on.
-pub fn copy(from: &[u8], at: usize, size: usize, to: &mut [u8], place: usize)
-    ensures { λ r. ⌜ now (to .exit) ≡ put (now (to .entry)) place (octetsAt size (now (from .entry)) at) ⌝ }
+// A part of a run copied to an offset in another: `size` octets from `at` on.
+pub fn copy(from: &[u8], at: usize, size: usize, to: &mut [u8], offset: usize)
+    ensures { λ r. ⌜ now (to .exit) ≡ put (now (to .entry)) offset (octetsAt size (now (from .entry)) at) ⌝ }
 {
-    if !octets::has_room(to.len(), place, size) {
+    if !octets::has_room(to.len(), offset, size) {
         return;
     }
     if octets::has_room(from.len(), at, size) {
-        copy_whole(from, at, size, to, place);
+        copy_whole(from, at, size, to, offset);
     } else {
-        copy_padded(from, at, size, to, place);
+        copy_padded(from, at, size, to, offset);
     }
 }

@@ -20,12 +20,12 @@ use Rattle.receive_sequence.specs.Sequence.{numberCount}
 use Rattle.receive.specs.declared.Arrival.{Arrival}
 use Rattle.receive.specs.declared.Reception.{Reception}
 use Rattle.receive.specs.declared.Reception.the-variants.{Delivered, Copy, OutOfSequence, UnknownLink, Late}
-use Rattle.receive.specs.Lent.{other, skewRowOctets, skewIn, recordWords, rowsInUse, rowFound, stampPlace, numberPlace, waitsPlace, deliveredPlace, lastStamp, lastNumber, awaiting, noted}
-use Rattle.receive.specs.Receive.{told, taken, left, answerBy, received}
-use Rattle.receive.specs.Claims.{AnswersApart, PossibleAnswers, RefusedKeeps, UnknownExactly, RowIsFirst, RowIsNowhere, RowsBeyondUnread, OnlyRecord, ChangesOwnRecord, StampAndNumberKept, SameRecord, ByOwnRecord}
-use Rattle.receive.proofs.Judging.{by-judged, refused-leaves, call-at, call-nowhere, by-row}
-use Rattle.receive.proofs.Kept.{kept-left, noted-stamp, noted-number, met-stamp, met-number, delivered-stamp, delivered-number}
-use Rattle.receive.proofs.Words.{number-inside, waits-inside, delivered-inside, record-in-run, length-store, word-same, word-other, outside-before, outside-behind}
+use Rattle.receive.specs.Lent.{other, skewRowOctets, skewIn, memoryWords, rowsInUse, rowFound, timeWord, numberWord, awaitingWord, deliveredWord, latestTime, lastNumber, awaiting, noted}
+use Rattle.receive.specs.Receive.{receptionCode, taken, memoryAfter, answerBy, received}
+use Rattle.receive.specs.Claims.{AnswersApart, PossibleAnswers, RefusedKeeps, UnknownExactly, RowIsFirst, RowIsNowhere, SkewRowsBeyondUnread, OnlyMemory, ChangesOwnMemory, TimeAndNumberStored, SameMemory, ByOwnMemory}
+use Rattle.receive.proofs.Answering.{by-reception, refused-leaves, call-at, call-nowhere, by-row}
+use Rattle.receive.proofs.Kept.{kept-left, noted-time, noted-number, met-time, met-number, delivered-time, delivered-number}
+use Rattle.receive.proofs.Words.{number-inside, awaiting-inside, delivered-inside, memory-in-run, length-store, word-same, word-other, outside-before, outside-after}
 
 -- ---- answers by their numbers
 heard : ℕ → Reception
@@ -36,18 +36,18 @@ heard n =
     else if eqb n 30 then Copy
     else OutOfSequence
 
-heard-told : (a : Reception) → heard (told a) ≡ a
+heard-reported : (a : Reception) → heard (receptionCode a) ≡ a
 unfolding heard
-heard-told Delivered = refl
-heard-told Copy = refl
-heard-told OutOfSequence = refl
-heard-told UnknownLink = refl
-heard-told Late = refl
+heard-reported Delivered = refl
+heard-reported Copy = refl
+heard-reported OutOfSequence = refl
+heard-reported UnknownLink = refl
+heard-reported Late = refl
 
 pub answers-apart : AnswersApart
-answers-apart a b e = sym (heard-told a) ∙ ap heard e ∙ heard-told b
+answers-apart a b e = sym (heard-reported a) ∙ ap heard e ∙ heard-reported b
 
-possible : (a : Reception) → List·Memᴰ (told a) (0 ∷ 30 ∷ 31 ∷ 4 ∷ 8 ∷ [])
+possible : (a : Reception) → List·Memᴰ (receptionCode a) (0 ∷ 30 ∷ 31 ∷ 4 ∷ 8 ∷ [])
 possible Delivered = List·Memᴰ·head refl
 possible Copy = List·Memᴰ·tail (List·Memᴰ·head refl)
 possible OutOfSequence = List·Memᴰ·tail (List·Memᴰ·tail (List·Memᴰ·head refl))
@@ -61,15 +61,15 @@ possible-answers rows r f = possible (received rows r f .says)
 pub known : (skew : ℕ) (r : List ℕ) (j : ℕ) (f : Arrival) → answerBy skew r j f ≡ UnknownLink → ⊥
 unfolding answerBy
 known skew r j f =
-    by-judged skew (lastStamp r j) (lastNumber r j (f .network)) (awaiting r j (other (f .network)) (f .number)) (f .number) (f .stamp)
+    by-reception skew (latestTime r j) (lastNumber r j (f .network)) (awaiting r j (other (f .network)) (f .number)) (f .number) (f .time)
     (λ a. a ≡ UnknownLink → ⊥)
-    (λ h e. let q : 8 ≡ 4 = ap told e in omega arith)
-    (λ h p e. let q : 31 ≡ 4 = ap told e in omega arith)
-    (λ h p s e. let q : 30 ≡ 4 = ap told e in omega arith)
-    (λ h p s e. let q : 0 ≡ 4 = ap told e in omega arith)
+    (λ h e. let q : 8 ≡ 4 = ap receptionCode e in omega arith)
+    (λ h p e. let q : 31 ≡ 4 = ap receptionCode e in omega arith)
+    (λ h p s e. let q : 30 ≡ 4 = ap receptionCode e in omega arith)
+    (λ h p s e. let q : 0 ≡ 4 = ap receptionCode e in omega arith)
 
 -- ---- refusals
-refusals : (a : Reception) → (told a ≡ 4) ⊎ (told a ≡ 8) → taken a ≡ false
+refusals : (a : Reception) → (receptionCode a ≡ 4) ⊎ (receptionCode a ≡ 8) → taken a ≡ false
 refusals UnknownLink e = refl
 refusals Late e = refl
 refusals Delivered (inl e) = absurd (omega arith)
@@ -81,7 +81,7 @@ refusals OutOfSequence (inr e) = absurd (omega arith)
 
 pub refused-keeps : RefusedKeeps
 refused-keeps rows r f =
-    by-row rows r f (λ z. (told (z .says) ≡ 4) ⊎ (told (z .says) ≡ 8) → z .records ≡ r)
+    by-row rows r f (λ z. (receptionCode (z .says) ≡ 4) ⊎ (receptionCode (z .says) ≡ 8) → z .memory ≡ r)
     (λ e q. refl)
     (λ j e q. refused-leaves r j f (answerBy (skewIn rows j) r j f) (refusals (answerBy (skewIn rows j) r j f) q))
 
@@ -108,7 +108,7 @@ unfolding rowFound
 row-is-nowhere rows words link e j h q =
     none-found (tableOf skewRowOctets rows) (rowsInUse (length rows) words) link e j h (number-in rows j ∙ q)
 
-pub rows-beyond : RowsBeyondUnread
+pub rows-beyond : SkewRowsBeyondUnread
 unfolding rowFound
 rows-beyond rows words rows′ words′ link n same =
     found-same (tableOf skewRowOctets rows) (tableOf skewRowOctets rows′) (rowsInUse (length rows) words) link
@@ -116,65 +116,65 @@ rows-beyond rows words rows′ words′ link n same =
     ∙ ap (λ (m : ℕ). foundIn (tableOf skewRowOctets rows′) m link) n
 
 -- its record is lent whole
-pub record-whole : (rows : List ℕ) (words link j : ℕ) → rowFound rows words link ≡ At j → recordWords * j + recordWords ≤ words
-record-whole rows words link j e =
-    record-in-run (length rows) words _ refl j (row-is-first rows words link j e .0)
+pub memory-whole : (rows : List ℕ) (words link j : ℕ) → rowFound rows words link ≡ At j → memoryWords * j + memoryWords ≤ words
+memory-whole rows words link j e =
+    memory-in-run (length rows) words _ refl j (row-is-first rows words link j e .0)
 
 -- ---- the records left
-pub only-record : (r : List ℕ) (j : ℕ) (f : Arrival) (a : Reception) → f .number < numberCount → OnlyRecord j r (left r j f a)
-only-record r j f a h =
-    kept-left (λ s t. OnlyRecord j r s) j j
+pub only-memory : (r : List ℕ) (j : ℕ) (f : Arrival) (a : Reception) → f .number < numberCount → OnlyMemory j r (memoryAfter r j f a)
+only-memory r j f a h =
+    kept-left (λ s t. OnlyMemory j r s) j j
     (λ s t k v l p.
     record {
       long = length-store s j k v ∙ p .long;
       before = λ i q. outside-before s j k i v q ∙ p .before i q;
-      behind = λ i q. outside-behind s j k i v l q ∙ p .behind i q;
+      after = λ i q. outside-after s j k i v l q ∙ p .after i q;
     })
-    r r f h a (record { long = refl; before = λ i q. refl; behind = λ i q. refl })
+    r r f h a (record { long = refl; before = λ i q. refl; after = λ i q. refl })
 
-pub changes-own-record : ChangesOwnRecord
-changes-own-record rows r f h j e =
-    subst (λ z. OnlyRecord j r (z .records)) (sym (call-at rows r f j e)) (only-record r j f (answerBy (skewIn rows j) r j f) h)
+pub changes-own-memory : ChangesOwnMemory
+changes-own-memory rows r f h j e =
+    subst (λ z. OnlyMemory j r (z .memory)) (sym (call-at rows r f j e)) (only-memory r j f (answerBy (skewIn rows j) r j f) h)
 
-module _ (r : List ℕ) (j : ℕ) (f : Arrival) (h : recordWords * j + recordWords ≤ length r) where
+module _ (r : List ℕ) (j : ℕ) (f : Arrival) (h : memoryWords * j + memoryWords ≤ length r) where
   pub both-kept : (a : Reception) → (a ≡ Late → ⊥) → (a ≡ UnknownLink → ⊥)
-      → (lastStamp (left r j f a) j ≡ f .stamp) × (lastNumber (left r j f a) j (f .network) ≡ some (f .number))
+      → (latestTime (memoryAfter r j f a) j ≡ f .time) × (lastNumber (memoryAfter r j f a) j (f .network) ≡ some (f .number))
   both-kept Late p q = absurd (p refl)
   both-kept UnknownLink p q = absurd (q refl)
-  both-kept OutOfSequence p q = (noted-stamp r j h f, noted-number r j h f)
+  both-kept OutOfSequence p q = (noted-time r j h f, noted-number r j h f)
   both-kept Copy p q = (
-    met-stamp (noted r j f) j (other (f .network)) (f .number) ∙ noted-stamp r j h f,
+    met-time (noted r j f) j (other (f .network)) (f .number) ∙ noted-time r j h f,
     met-number (noted r j f) j (other (f .network)) (f .number) (f .network) ∙ noted-number r j h f,
   )
   both-kept Delivered p q = (
-    delivered-stamp (noted r j f) j f ∙ noted-stamp r j h f,
+    delivered-time (noted r j f) j f ∙ noted-time r j h f,
     delivered-number (noted r j f) j f (f .network) ∙ noted-number r j h f,
   )
 
-pub stamp-and-number-kept : StampAndNumberKept
-stamp-and-number-kept rows r f j e =
+pub time-and-number-stored : TimeAndNumberStored
+time-and-number-stored rows r f j e =
     rw (call-at rows r f j e)
-    (λ p. both-kept r j f (record-whole rows (length r) (f .link) j e) (answerBy (skewIn rows j) r j f) p (known (skewIn rows j) r j f))
+    (λ p. both-kept r j f (memory-whole rows (length r) (f .link) j e) (answerBy (skewIn rows j) r j f) p (known (skewIn rows j) r j f))
 
 -- ---- two records that are the same
-module _ (r : List ℕ) (j : ℕ) (s : List ℕ) (i : ℕ) (f : Arrival) (h : f .number < numberCount) (same : SameRecord r j s i) where
+module _ (r : List ℕ) (j : ℕ) (s : List ℕ) (i : ℕ) (f : Arrival) (h : f .number < numberCount) (same : SameMemory r j s i) where
   pub same-answer : (skew : ℕ) → answerBy skew r j f ≡ answerBy skew s i f
   unfolding answerBy
   same-answer skew =
       let o = other (f .network) in
       let d = delivered-inside o (f .number) _ refl h in
       rw (
-        same stampPlace (omega arith),
-        same (numberPlace (f .network)) (number-inside (f .network) _ refl),
-        same (waitsPlace o (f .number)) (waits-inside o (f .number) _ refl h),
-        same (deliveredPlace o (f .number)) (omega arith),
+        same timeWord (omega arith),
+        same (numberWord (f .network)) (number-inside (f .network) _ refl),
+        same (awaitingWord o (f .number)) (awaiting-inside o (f .number) _ refl h),
+        same (deliveredWord o (f .number)) (omega arith),
       ) refl
 
-  pub same-left : recordWords * j + recordWords ≤ length r → recordWords * i + recordWords ≤ length s → (a : Reception)
-      → SameRecord (left r j f a) j (left s i f a) i
+  pub same-left : memoryWords * j + memoryWords ≤ length r → memoryWords * i + memoryWords ≤ length s → (a : Reception)
+      → SameMemory (memoryAfter r j f a) j (memoryAfter s i f a) i
   same-left p q a =
       kept-left
-      (λ u v. (recordWords * j + recordWords ≤ length u) × (recordWords * i + recordWords ≤ length v) × SameRecord u j v i) j i
+      (λ u v. (memoryWords * j + memoryWords ≤ length u) × (memoryWords * i + memoryWords ≤ length v) × SameMemory u j v i) j i
       (λ u v k x l z.
       let m = length-store u j k x in
       let n = length-store v i k x in (
@@ -190,11 +190,11 @@ module _ (r : List ℕ) (j : ℕ) (s : List ℕ) (i : ℕ) (f : Arrival) (h : f 
       ))
       r s f h a (p, q, same) .2
 
-pub by-own-record : ByOwnRecord
-by-own-record rows r j rows′ r′ i f h e e′ skew same =
+pub by-own-memory : ByOwnMemory
+by-own-memory rows r j rows′ r′ i f h e e′ skew same =
     let a : answerBy (skewIn rows j) r j f ≡ answerBy (skewIn rows′ i) r′ i f = same-answer r j r′ i f h same (skewIn rows j) ∙ ap (λ x. answerBy x r′ i f) skew in
     rw (call-at rows r f j e, call-at rows′ r′ f i e′) (
       a,
-      subst (λ b. SameRecord (left r j f (answerBy (skewIn rows j) r j f)) j (left r′ i f b) i) a
-          (same-left r j r′ i f h same (record-whole rows (length r) (f .link) j e) (record-whole rows′ (length r′) (f .link) i e′) (answerBy (skewIn rows j) r j f)),
+      subst (λ b. SameMemory (memoryAfter r j f (answerBy (skewIn rows j) r j f)) j (memoryAfter r′ i f b) i) a
+          (same-left r j r′ i f h same (memory-whole rows (length r) (f .link) j e) (memory-whole rows′ (length r′) (f .link) i e′) (answerBy (skewIn rows j) r j f)),
     )

@@ -11,22 +11,22 @@ use Rattle.receive.specs.declared.Arrival.{Arrival}
 use Rattle.receive.specs.declared.Reception.{Reception}
 use Rattle.receive.specs.declared.Reception.the-variants.{UnknownLink, Late}
 use Rattle.receive_sequence.specs.Sequence.{numberCount}
-use Rattle.receive.specs.Lent.{skewRowOctets, skewIn, recordWords, rowsInUse, rowFound, word, lastStamp, lastNumber}
-use Rattle.receive.specs.Receive.{told, received}
+use Rattle.receive.specs.Lent.{skewRowOctets, skewIn, memoryWords, rowsInUse, rowFound, word, latestTime, lastNumber}
+use Rattle.receive.specs.Receive.{receptionCode, received}
 
 -- two answers with the same number are the same
 abbrev pub AnswersApart : Type 0
-AnswersApart = (a b : Reception) → told a ≡ told b → a ≡ b
+AnswersApart = (a b : Reception) → receptionCode a ≡ receptionCode b → a ≡ b
 
 -- demand 1: delivered, copy, out of sequence, 4 and 8, and no other
 abbrev pub PossibleAnswers : Type 0
-PossibleAnswers = (rows r : List ℕ) (f : Arrival) → List·Memᴰ (told (received rows r f .says)) (0 ∷ 30 ∷ 31 ∷ 4 ∷ 8 ∷ [])
+PossibleAnswers = (rows r : List ℕ) (f : Arrival) → List·Memᴰ (receptionCode (received rows r f .says)) (0 ∷ 30 ∷ 31 ∷ 4 ∷ 8 ∷ [])
 
 -- demand 1: 4 and 8 change nothing
 abbrev pub RefusedKeeps : Type 0
 RefusedKeeps =
-    (rows r : List ℕ) (f : Arrival) → (told (received rows r f .says) ≡ 4) ⊎ (told (received rows r f .says) ≡ 8)
-    → received rows r f .records ≡ r
+    (rows r : List ℕ) (f : Arrival) → (receptionCode (received rows r f .says) ≡ 4) ⊎ (receptionCode (received rows r f .says) ≡ 8)
+    → received rows r f .memory ≡ r
 
 -- 4 first: exactly where no row in use has the link's number
 abbrev pub UnknownExactly : Type 0
@@ -46,36 +46,36 @@ RowIsNowhere =
     → (j : ℕ) → j < rowsInUse (length rows) words → numberAt 2 rows (skewRowOctets * j) ≡ link → ⊥
 
 -- rows beyond those in use play no part
-abbrev pub RowsBeyondUnread : Type 0
-RowsBeyondUnread =
+abbrev pub SkewRowsBeyondUnread : Type 0
+SkewRowsBeyondUnread =
     (rows : List ℕ) (words : ℕ) (rows′ : List ℕ) (words′ link : ℕ) → rowsInUse (length rows) words ≡ rowsInUse (length rows′) words′
     → ((j : ℕ) → j < rowsInUse (length rows) words → numberAt 2 rows (skewRowOctets * j) ≡ numberAt 2 rows′ (skewRowOctets * j))
     → rowFound rows words link ≡ rowFound rows′ words′ link
 
 -- ---- of a call whose link has row j: only record j may change
-pub record OnlyRecord (j : ℕ) (r s : List ℕ) : Type 0 where
+pub record OnlyMemory (j : ℕ) (r s : List ℕ) : Type 0 where
   pub long : length s ≡ length r
-  pub before : (i : ℕ) → i < recordWords * j → getD s i 0 ≡ getD r i 0
-  pub behind : (i : ℕ) → recordWords * j + recordWords ≤ i → getD s i 0 ≡ getD r i 0
+  pub before : (i : ℕ) → i < memoryWords * j → getD s i 0 ≡ getD r i 0
+  pub after : (i : ℕ) → memoryWords * j + memoryWords ≤ i → getD s i 0 ≡ getD r i 0
 
-abbrev pub ChangesOwnRecord : Type 0
-ChangesOwnRecord =
+abbrev pub ChangesOwnMemory : Type 0
+ChangesOwnMemory =
     (rows r : List ℕ) (f : Arrival) → f .number < numberCount → (j : ℕ) → rowFound rows (length r) (f .link) ≡ At j
-    → OnlyRecord j r (received rows r f .records)
+    → OnlyMemory j r (received rows r f .memory)
 
--- any answer but the refusals, out of sequence too, keeps the stamp, for both networks, and the number, for its own
-abbrev pub StampAndNumberKept : Type 0
-StampAndNumberKept =
+-- any answer but the refusals, out of sequence too, keeps the time, for both networks, and the number, for its own
+abbrev pub TimeAndNumberStored : Type 0
+TimeAndNumberStored =
     (rows r : List ℕ) (f : Arrival) (j : ℕ) → rowFound rows (length r) (f .link) ≡ At j → (received rows r f .says ≡ Late → ⊥)
-    → (lastStamp (received rows r f .records) j ≡ f .stamp) × (lastNumber (received rows r f .records) j (f .network) ≡ some (f .number))
+    → (latestTime (received rows r f .memory) j ≡ f .time) × (lastNumber (received rows r f .memory) j (f .network) ≡ some (f .number))
 
 -- nothing but the link's SkewMax and its record plays a part
-abbrev pub SameRecord : List ℕ → ℕ → List ℕ → ℕ → Type 0
-SameRecord r j s i = (k : ℕ) → k < recordWords → word r j k ≡ word s i k
+abbrev pub SameMemory : List ℕ → ℕ → List ℕ → ℕ → Type 0
+SameMemory r j s i = (k : ℕ) → k < memoryWords → word r j k ≡ word s i k
 
-abbrev pub ByOwnRecord : Type 0
-ByOwnRecord =
+abbrev pub ByOwnMemory : Type 0
+ByOwnMemory =
     (rows r : List ℕ) (j : ℕ) (rows′ r′ : List ℕ) (i : ℕ) (f : Arrival) → f .number < numberCount
     → rowFound rows (length r) (f .link) ≡ At j → rowFound rows′ (length r′) (f .link) ≡ At i
-    → skewIn rows j ≡ skewIn rows′ i → SameRecord r j r′ i
-    → (received rows r f .says ≡ received rows′ r′ f .says) × SameRecord (received rows r f .records) j (received rows′ r′ f .records) i
+    → skewIn rows j ≡ skewIn rows′ i → SameMemory r j r′ i
+    → (received rows r f .says ≡ received rows′ r′ f .says) × SameMemory (received rows r f .memory) j (received rows′ r′ f .memory) i

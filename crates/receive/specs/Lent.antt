@@ -23,9 +23,9 @@ abbrev pub other : Network → Network
 other A = B
 other B = A
 
--- a frame that comes in: its link, its network, its sequence number, its stamp in us
+-- a frame that comes in: its link, its network, its sequence number, its time in us
 abbrev pub arrivalOf : ℕ → Network → ℕ → ℕ → Arrival
-arrivalOf link x n t = record { link = link; network = x; number = n; stamp = t }
+arrivalOf link x n t = record { link = link; network = x; number = n; time = t }
 
 -- ---- rows: number (2), SkewMax in us (4)
 abbrev pub skewRowOctets : ℕ
@@ -34,14 +34,14 @@ skewRowOctets = 6
 unfoldable pub skewIn : List ℕ → ℕ → ℕ
 skewIn rows j = numberAt 4 rows (skewRowOctets * j + 2)
 
--- a record, in words of 64 bits: the link's last stamp, the last number on each network, and for each network and number two words,
+-- a record, in words of 64 bits: the link's last time, the last number on each network, and for each network and number two words,
 -- for the delivery that may await its copy; 3 + 2 × 256 × 2
-abbrev pub recordWords : ℕ
-recordWords = 1027
+abbrev pub memoryWords : ℕ
+memoryWords = 1027
 
 -- rows in use: those of which row and record are lent whole
 unfoldable pub rowsInUse : ℕ → ℕ → ℕ
-rowsInUse octets words = inUse skewRowOctets octets (words / recordWords)
+rowsInUse octets words = inUse skewRowOctets octets (words / memoryWords)
 
 -- the row of a link: the first in use with its number
 unfoldable pub rowFound : List ℕ → ℕ → ℕ → Found
@@ -49,45 +49,45 @@ rowFound rows words link = foundIn (tableOf skewRowOctets rows) (rowsInUse (leng
 
 -- ---- word k of record j, and that word stored
 unfoldable pub word : List ℕ → ℕ → ℕ → ℕ
-word r j k = getD r (recordWords * j + k) 0
+word r j k = getD r (memoryWords * j + k) 0
 
 unfoldable pub store : List ℕ → ℕ → ℕ → ℕ → List ℕ
-store r j k v = set r (recordWords * j + k) v
+store r j k v = set r (memoryWords * j + k) v
 
 -- ---- a record's words. All are 0 in an empty record
-abbrev pub stampPlace : ℕ
-stampPlace = 0
+abbrev pub timeWord : ℕ
+timeWord = 0
 
-abbrev pub numberPlace : Network → ℕ
-numberPlace x = 1 + index x
+abbrev pub numberWord : Network → ℕ
+numberWord x = 1 + index x
 
-abbrev pub waitsPlace : Network → ℕ → ℕ
-waitsPlace x n = 3 + 512 * index x + 2 * n
+abbrev pub awaitingWord : Network → ℕ → ℕ
+awaitingWord x n = 3 + 512 * index x + 2 * n
 
-abbrev pub deliveredPlace : Network → ℕ → ℕ
-deliveredPlace x n = 4 + 512 * index x + 2 * n
+abbrev pub deliveredWord : Network → ℕ → ℕ
+deliveredWord x n = 4 + 512 * index x + 2 * n
 
--- a delivery that awaits its copy has its first word other than 0; the second is its stamp
+-- a delivery that awaits its copy has its first word other than 0; the second is its time
 unfoldable pub deliveryOf : ℕ → ℕ → Option ℕ
-deliveryOf waits stamp = if eqb waits 0 then none else some stamp
+deliveryOf waits time = if eqb waits 0 then none else some time
 
--- ---- what record j says: the link's last stamp, the last number received on a network, the stamp of the delivery of n on a network
+-- ---- what record j says: the link's last time, the last number received on a network, the time of the delivery of n on a network
 -- that awaits its copy
-abbrev pub lastStamp : List ℕ → ℕ → ℕ
-lastStamp r j = word r j stampPlace
+abbrev pub latestTime : List ℕ → ℕ → ℕ
+latestTime r j = word r j timeWord
 
 abbrev pub lastNumber : List ℕ → ℕ → Network → Option ℕ
-lastNumber r j x = numberOf (word r j (numberPlace x))
+lastNumber r j x = numberOf (word r j (numberWord x))
 
 abbrev pub awaiting : List ℕ → ℕ → Network → ℕ → Option ℕ
-awaiting r j x n = deliveryOf (word r j (waitsPlace x n)) (word r j (deliveredPlace x n))
+awaiting r j x n = deliveryOf (word r j (awaitingWord x n)) (word r j (deliveredWord x n))
 
--- ---- what is kept in it: stamp and number of a frame; that a delivery has met its copy; that a frame was delivered
+-- ---- what is kept in it: time and number of a frame; that a delivery has met its copy; that a frame was delivered
 unfoldable pub noted : List ℕ → ℕ → Arrival → List ℕ
-noted r j f = store (store r j stampPlace (f .stamp)) j (numberPlace (f .network)) (f .number + 1)
+noted r j f = store (store r j timeWord (f .time)) j (numberWord (f .network)) (f .number + 1)
 
 unfoldable pub met : List ℕ → ℕ → Network → ℕ → List ℕ
-met r j x n = store r j (waitsPlace x n) 0
+met r j x n = store r j (awaitingWord x n) 0
 
 unfoldable pub delivered : List ℕ → ℕ → Arrival → List ℕ
-delivered r j f = store (store r j (waitsPlace (f .network) (f .number)) 1) j (deliveredPlace (f .network) (f .number)) (f .stamp)
+delivered r j f = store (store r j (awaitingWord (f .network) (f .number)) 1) j (deliveredWord (f .network) (f .number)) (f .time)

@@ -4,10 +4,10 @@ ghost use mathlib.Core.Path.{_≡_};
 ghost use Prim.Native.Nat.{_+_, _*_, _≤_};
 ghost use lib.ListN.{length};
 ghost use Rattle.receive_sequence.specs.Sequence.{numberOf};
-ghost use Rattle.receive.specs.Lent.{other, recordWords, deliveryOf};
-ghost use Rattle.receive.specs.Receive.{told, taken, inSkew, judged, answerBy, afterOf, received};
+ghost use Rattle.receive.specs.Lent.{other, memoryWords, deliveryOf};
+ghost use Rattle.receive.specs.Receive.{receptionCode, taken, inSkew, receptionBy, answerBy, receivedOf, received};
 
-mod records;
+mod memory;
 
 use rows::Found;
 
@@ -17,19 +17,19 @@ const SKEW_OCTETS: u8 = 4;
 pub const ROW_OCTETS: usize = rows::NUMBER_OCTETS + SKEW_OCTETS as usize;
 
 // Words of a record; all are 0 where it is empty.
-pub const RECORD_WORDS: usize = 1027;
+pub const MEMORY_WORDS: usize = 1027;
 
 pub enum Network {
     A,
     B,
 }
 
-// A frame that comes in; its stamp is in microseconds.
+// A frame that comes in; its time is in microseconds.
 pub struct Arrival {
     pub link: u16,
     pub network: Network,
     pub number: u8,
-    pub stamp: u64,
+    pub time: u64,
 }
 
 // The answer: delivered, the copy of a frame that was, out of sequence, or a refusal, 4 or 8.
@@ -44,7 +44,7 @@ pub enum Reception {
 impl Reception {
     // The number of an answer.
     pub fn number(self) -> u8
-        ensures { λ r. ⌜ r ≡ told self ⌝ }
+        ensures { λ r. ⌜ r ≡ receptionCode self ⌝ }
     {
         match self {
             Reception::Delivered => 0,
@@ -78,79 +78,71 @@ fn other(network: Network) -> Network
     }
 }
 
-// Whether a delivery awaits its copy and is no more than SkewMax old at a stamp, nor stamped after it.
-fn in_skew(skew: u32, waits: u64, delivered: u64, stamp: u64) -> bool
-    ensures { λ r. ⌜ r ≡ inSkew skew (deliveryOf waits delivered) stamp ⌝ }
+// Whether a delivery awaits its copy and is no more than SkewMax old at a time, nor timed after it.
+fn in_skew(skew: u32, waits: u64, delivered: u64, time: u64) -> bool
+    ensures { λ r. ⌜ r ≡ inSkew skew (deliveryOf waits delivered) time ⌝ }
 {
     if waits == 0 {
         return false;
     }
-    if stamp < delivered {
+    if time < delivered {
         return false;
     }
-    stamp - delivered <= skew as u64
+    time - delivered <= skew as u64
 }
 
-// What is answered, from the words that a record has for a frame: the link's last stamp, the last number on the frame's
+// What is answered, from the words that a record has for a frame: the link's last time, the last number on the frame's
 // network, and the other network's delivery of its number.
-fn judge(
+fn reception_by(
     skew: u32,
     last: u64,
     held: u64,
     waits: u64,
     delivered: u64,
     number: u8,
-    stamp: u64,
+    time: u64,
 ) -> Reception
-    ensures { λ r. ⌜ r ≡ judged skew last (numberOf held) (deliveryOf waits delivered) number stamp ⌝ }
+    ensures { λ r. ⌜ r ≡ receptionBy skew last (numberOf held) (deliveryOf waits delivered) number time ⌝ }
 {
-    if stamp < last {
+    if time < last {
         return Reception::Late;
     }
     if !receive_sequence::passes(held, number) {
         return Reception::OutOfSequence;
     }
-    if in_skew(skew, waits, delivered, stamp) {
+    if in_skew(skew, waits, delivered, time) {
         return Reception::Copy;
     }
     Reception::Delivered
 }
 
 // The same by the record of a row.
-fn answer_by(skew: u32, records: &[u64], row: usize, frame: Arrival) -> Reception
-    requires { ⌜ recordWords * row + recordWords ≤ length (now records) ⌝ }
-    ensures { λ r. ⌜ r ≡ answerBy skew (now (records .entry)) row frame ⌝ }
+fn answer_by(skew: u32, memory: &[u64], row: usize, frame: Arrival) -> Reception
+    requires { ⌜ memoryWords * row + memoryWords ≤ length (now memory) ⌝ }
+    ensures { λ r. ⌜ r ≡ answerBy skew (now (memory .entry)) row frame ⌝ }
 {
     let network = frame.network;
     let across = other(network);
-    let place = records::waits_place(across, frame.number);
-    let last = records::word(records, row, records::STAMP_PLACE);
-    let held = records::word(records, row, records::number_place(network));
-    let waits = records::word(records, row, place);
-    let delivered = records::word(records, row, place + 1);
-    judge(
-        skew,
-        last,
-        held,
-        waits,
-        delivered,
-        frame.number,
-        frame.stamp,
-    )
+    let at = memory::awaiting_word(across, frame.number);
+    let last = memory::word(memory, row, memory::TIME_WORD);
+    let held = memory::word(memory, row, memory::number_word(network));
+    let waits = memory::word(memory, row, at);
+    let delivered = memory::word(memory, row, at + 1);
+    reception_by(skew, last, held, waits, delivered, frame.number, frame.time)
 }
 
 // A frame that comes in: its answer, with what that leaves stored in its link's record. Any rows and records get an
 // answer; those beyond the rows in use are neither read nor written.
-pub fn receive(frame: Arrival, rows: &[u8], records: &mut [u64]) -> Reception
-    ensures { λ r. ⌜ afterOf r (now (records .exit)) ≡ received (now (rows .entry)) (now (records .entry)) frame ⌝ }
+pub fn receive(frame: Arrival, rows: &[u8], memory: &mut [u64]) -> Reception
+    ensures { λ r. ⌜ receivedOf r (now (memory .exit)) ≡ received (now (rows .entry)) (now (memory .entry)) frame ⌝ }
 {
-    let count = records.len() / RECORD_WORDS;
+    let count = memory.len() / MEMORY_WORDS;
     match rows::find(rows, SKEW_OCTETS, count, frame.link) {
         Found::Nowhere => Reception::UnknownLink,
         Found::At(row) => {
             let skew = octets::u32_at(rows, ROW_OCTETS * row + 2);
-            let answer = answer_by(skew, records, row, frame);
-            records::keep(records, row, frame, answer);
+            let answer = answer_by(skew, memory, row, frame);
+            memory::store_answer(memory, row, frame, answer);
             answer
         }
     }

@@ -1,6 +1,6 @@
 -- Request Q-1 whole. Assumes nothing.
 use Rattle.lists.proofs.Claims.{picked-answers}
-use Rattle.receive.proofs.Claims.{possible-answers, answers-apart, refused-keeps, unknown-exactly, row-is-first, row-is-nowhere, rows-beyond, changes-own-record, stamp-and-number-kept, by-own-record}
+use Rattle.receive.proofs.Claims.{possible-answers, answers-apart, refused-keeps, unknown-exactly, row-is-first, row-is-nowhere, rows-beyond, changes-own-memory, time-and-number-stored, by-own-memory}
 use Rattle.receive_sequence.proofs.Claims.{pass-table}
 use Rattle.receive_history.specs.Claims.{ReceivingEnd}
 use Rattle.receive_history.proofs.Counts.{one-copy-each}
@@ -18,9 +18,9 @@ receiving-end =
       row-is-first = row-is-first;
       row-is-nowhere = row-is-nowhere;
       rows-beyond = rows-beyond;
-      changes-own-record = changes-own-record;
-      stamp-and-number-kept = stamp-and-number-kept;
-      by-own-record = by-own-record;
+      changes-own-memory = changes-own-memory;
+      time-and-number-stored = time-and-number-stored;
+      by-own-memory = by-own-memory;
       pass-table = pass-table;
       rule = rule-of-receptions;
       rule-of-next = rule-of-next;

@@ -18,7 +18,7 @@ use Rattle.receive.specs.declared.Network.{Network}
 use Rattle.receive.specs.declared.Reception.{Reception}
 use Rattle.receive.specs.declared.Reception.the-variants.{Delivered, Copy, OutOfSequence, UnknownLink, Late}
 use Rattle.receive.specs.Lent.{other, skewIn, rowFound}
-use Rattle.receive.specs.Receive.{told}
+use Rattle.receive.specs.Receive.{receptionCode}
 use Rattle.receive_history.specs.History.{Answered, answeredOf, onLink}
 use Rattle.receive_history.specs.Rule.{receivedOn, ofLink, numbered, unmet, ruleAnswer, ruleOfFrames}
 use Rattle.receive_history.specs.Words.{isDelivered, isCopy, deliveries, copies, OneCopyEach}
@@ -69,10 +69,10 @@ copy-waits : (rows : List ℕ) (words : ℕ) (p : List Answered) (f : Arrival) �
 copy-waits rows words p f e = cases (rowFound rows words (f .link)) refl
   where
     cases : (d : Found) → rowFound rows words (f .link) ≡ d → waits (unmet (other (f .network)) (f .number) (ofLink (f .link) p)) ≡ 1
-    cases Nowhere q = let z : _≡_ {A = ℕ} 4 30 = ap told (sym (rule-nowhere rows words p f q) ∙ e) in absurd (omega arith)
+    cases Nowhere q = let z : _≡_ {A = ℕ} 4 30 = ap receptionCode (sym (rule-nowhere rows words p f q) ∙ e) in absurd (omega arith)
     cases (At j) q =
-        let w = skew-within (skewIn rows j) (unmet (other (f .network)) (f .number) (ofLink (f .link) p)) (f .stamp) (copy-skew (skewIn rows j) (ofLink (f .link) p) f (sym (rule-at rows words p f j q) ∙ e)) in
-        ap waits (w .is) ∙ waits-some (w .stamp)
+        let w = skew-within (skewIn rows j) (unmet (other (f .network)) (f .number) (ofLink (f .link) p)) (f .time) (copy-skew (skewIn rows j) (ofLink (f .link) p) f (sym (rule-at rows words p f j q) ∙ e)) in
+        ap waits (w .is) ∙ waits-some (w .time)
 
 -- ---- one frame more
 module _ (link : ℕ) (x : Network) (n : ℕ) (f : Arrival) (p : List Answered) where

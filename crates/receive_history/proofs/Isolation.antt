@@ -15,30 +15,30 @@ use Rattle.rows.specs.declared.Found.the-variants.{At, Nowhere}
 use Rattle.receive_sequence.specs.Sequence.{numberCount}
 use Rattle.receive.specs.declared.Arrival.{Arrival}
 use Rattle.receive.specs.declared.Reception.the-variants.{UnknownLink}
-use Rattle.receive.specs.Lent.{skewIn, recordWords, rowFound, word}
-use Rattle.receive.specs.Receive.{After, answerBy, received}
-use Rattle.receive.specs.Claims.{SameRecord}
-use Rattle.receive.proofs.Judging.{call-nowhere, by-row}
+use Rattle.receive.specs.Lent.{skewIn, memoryWords, rowFound, word}
+use Rattle.receive.specs.Receive.{Received, answerBy, received}
+use Rattle.receive.specs.Claims.{SameMemory}
+use Rattle.receive.proofs.Answering.{call-nowhere, by-row}
 use Rattle.receive.proofs.Kept.{left-beside}
-use Rattle.receive.proofs.Claims.{row-is-first, record-whole, changes-own-record, by-own-record}
-use Rattle.receive_history.specs.History.{Answered, answeredOf, receiving, final, Empty, Octets, onLink, skewBy, recordBy, recordOf}
+use Rattle.receive.proofs.Claims.{row-is-first, memory-whole, changes-own-memory, by-own-memory}
+use Rattle.receive_history.specs.History.{Answered, answeredOf, receiving, finalMemory, Empty, Octets, onLink, skewBy, memoryBy, memoryOf}
 use Rattle.receive_history.specs.Isolation.{SameOnLink, ReceptionsApart}
 use Rattle.receive_history.proofs.Memory.{some?, amount}
 use Rattle.receive_history.proofs.Rule.{rows-apart}
 
 -- ---- a call keeps how many words there are
-length-call : (rows r : List ℕ) (f : Arrival) → f .number < numberCount → length (received rows r f .records) ≡ length r
+length-call : (rows r : List ℕ) (f : Arrival) → f .number < numberCount → length (received rows r f .memory) ≡ length r
 length-call rows r f h = cases (rowFound rows (length r) (f .link)) refl
   where
-    cases : (d : Found) → rowFound rows (length r) (f .link) ≡ d → length (received rows r f .records) ≡ length r
-    cases Nowhere e = ap (λ (z : After). length (z .records)) (call-nowhere rows r f e)
-    cases (At j) e = changes-own-record rows r f h j e .long
+    cases : (d : Found) → rowFound rows (length r) (f .link) ≡ d → length (received rows r f .memory) ≡ length r
+    cases Nowhere e = ap (λ (z : Received). length (z .memory)) (call-nowhere rows r f e)
+    cases (At j) e = changes-own-memory rows r f h j e .long
 
 -- a call on another link leaves the record of row i as it is
 beside : (rows r : List ℕ) (link i : ℕ) → rowFound rows (length r) link ≡ At i → (f : Arrival) → f .number < numberCount → onLink link f ≡ false
-    → SameRecord (received rows r f .records) i r i
+    → SameMemory (received rows r f .memory) i r i
 beside rows r link i e f h off =
-    by-row rows r f (λ z. SameRecord (z .records) i r i)
+    by-row rows r f (λ z. SameMemory (z .memory) i r i)
     (λ q k l. refl)
     (λ j q. left-beside r j f (answerBy (skewIn rows j) r j f) h i (rows-apart rows (length r) link (f .link) i j e q (λ m. eqb-false _ _ off (sym m))))
 
@@ -46,7 +46,7 @@ beside rows r link i e f h off =
 module _ (link : ℕ) (rows : List ℕ) (words j : ℕ) (e : rowFound rows words link ≡ At j)
     (rows′ : List ℕ) (words′ i : ℕ) (e′ : rowFound rows′ words′ link ≡ At i) (skew : skewIn rows j ≡ skewIn rows′ i) where
   abbrev Same : List ℕ → List ℕ → Type 0
-  Same s r = (length r ≡ words) × (length s ≡ words′) × SameRecord r j s i
+  Same s r = (length r ≡ words) × (length s ≡ words′) × SameMemory r j s i
 
   known : (h : List Arrival) → Octets h → SimulatesPicked (receiving rows) (receiving rows′) (onLink link) Same h
   known h o =
@@ -55,7 +55,7 @@ module _ (link : ℕ) (rows : List ℕ) (words j : ℕ) (e : rowFound rows words
             let l : f .link ≡ link = eqb-true _ _ on in
             let p : rowFound rows (length r) (f .link) ≡ At j = ap₂ (rowFound rows) (q .0) l ∙ e in
             let p′ : rowFound rows′ (length s) (f .link) ≡ At i = ap₂ (rowFound rows′) (q .1) l ∙ e′ in
-            let b = by-own-record rows r j rows′ s i f (o f m) p p′ skew (q .2) in
+            let b = by-own-memory rows r j rows′ s i f (o f m) p p′ skew (q .2) in
             (ap (answeredOf f) (b .0), (length-call rows r f (o f m) ∙ q .0, length-call rows′ s f (o f m) ∙ q .1, b .1));
         others = λ f m off s r q.
             let p : rowFound rows (length r) link ≡ At j = ap (λ (k : ℕ). rowFound rows k link) (q .0) ∙ e in
@@ -72,22 +72,22 @@ unknown link rows words e h o =
     record {
       picked = λ f m on _ r n.
           let p : rowFound rows (length r) (f .link) ≡ Nowhere = ap₂ (rowFound rows) n (eqb-true _ _ on) ∙ e in
-          (ap (λ (z : After). answeredOf f (z .says)) (call-nowhere rows r f p), length-call rows r f (o f m) ∙ n);
+          (ap (λ (z : Received). answeredOf f (z .says)) (call-nowhere rows r f p), length-call rows r f (o f m) ∙ n);
       others = λ f m off _ r n. length-call rows r f (o f m) ∙ n;
     }
 
 -- ---- records as lists of words
-same-words : (r s : List ℕ) (j i : ℕ) → recordWords * j + recordWords ≤ length r → recordWords * i + recordWords ≤ length s → SameRecord r j s i
-    → take recordWords (drop (recordWords * j) r) ≡ take recordWords (drop (recordWords * i) s)
+same-words : (r s : List ℕ) (j i : ℕ) → memoryWords * j + memoryWords ≤ length r → memoryWords * i + memoryWords ≤ length s → SameMemory r j s i
+    → take memoryWords (drop (memoryWords * j) r) ≡ take memoryWords (drop (memoryWords * i) s)
 unfolding word
 same-words r s j i h l same =
-    sym (part-take recordWords r (recordWords * j) h)
-    ∙ part-same recordWords r s (recordWords * j) (recordWords * i) same
-    ∙ part-take recordWords s (recordWords * i) l
+    sym (part-take memoryWords r (memoryWords * j) h)
+    ∙ part-same memoryWords r s (memoryWords * j) (memoryWords * i) same
+    ∙ part-take memoryWords s (memoryWords * i) l
 
-record-at : (rows w : List ℕ) (words link : ℕ) (d : Found) → length w ≡ words → rowFound rows words link ≡ d
-    → recordOf rows w link ≡ recordBy w d
-record-at rows w words link d n e = ap (recordBy w) (ap (λ (k : ℕ). rowFound rows k link) n ∙ e)
+memory-at : (rows w : List ℕ) (words link : ℕ) (d : Found) → length w ≡ words → rowFound rows words link ≡ d
+    → memoryOf rows w link ≡ memoryBy w d
+memory-at rows w words link d n e = ap (memoryBy w) (ap (λ (k : ℕ). rowFound rows k link) n ∙ e)
 
 -- ---- two histories
 module _ (link : ℕ) (rows r : List ℕ) (z : Empty rows r) (h : List Arrival) (o : Octets h)
@@ -98,8 +98,8 @@ module _ (link : ℕ) (rows r : List ℕ) (z : Empty rows r) (h : List Arrival) 
       record {
         says = a .0;
         leaves =
-            record-at rows (final rows r h) (length r) link Nowhere (a .1) e
-            ∙ sym (record-at rows′ (final rows′ r′ h′) (length r′) link Nowhere (a .2) e′);
+            memory-at rows (finalMemory rows r h) (length r) link Nowhere (a .1) e
+            ∙ sym (memory-at rows′ (finalMemory rows′ r′ h′) (length r′) link Nowhere (a .2) e′);
       }
 
   both-known : (j i : ℕ) → rowFound rows (length r) link ≡ At j → rowFound rows′ (length r′) link ≡ At i → skewIn rows j ≡ skewIn rows′ i → SameOnLink link rows r h rows′ r′ h′
@@ -110,17 +110,17 @@ module _ (link : ℕ) (rows r : List ℕ) (z : Empty rows r) (h : List Arrival) 
       (known link rows (length r) j e rows′ (length r′) i e′ skew h o)
       (known link rows′ (length r′) i e′ rows′ (length r′) i e′ refl h′ o′) g
       r′ r (refl, refl, λ k l. z j in-use k l ∙ sym (z′ i in-use′ k l)) r′ (refl, refl, λ k l. refl) in
-      let n : length (final rows r h) ≡ length r = a .1 .0 in
-      let m : length (final rows′ r′ h′) ≡ length r′ = a .2 .0 in
-      let w = record-whole rows (length r) link j e in
-      let v = record-whole rows′ (length r′) link i e′ in
+      let n : length (finalMemory rows r h) ≡ length r = a .1 .0 in
+      let m : length (finalMemory rows′ r′ h′) ≡ length r′ = a .2 .0 in
+      let w = memory-whole rows (length r) link j e in
+      let v = memory-whole rows′ (length r′) link i e′ in
       record {
         says = a .0;
         leaves =
-            record-at rows (final rows r h) (length r) link (At j) n e
-            ∙ same-words (final rows r h) (final rows′ r′ h′) j i (omega arith) (omega arith)
+            memory-at rows (finalMemory rows r h) (length r) link (At j) n e
+            ∙ same-words (finalMemory rows r h) (finalMemory rows′ r′ h′) j i (omega arith) (omega arith)
             (λ k l. a .1 .2 k l ∙ sym (a .2 .2 k l))
-            ∙ sym (record-at rows′ (final rows′ r′ h′) (length r′) link (At i) m e′);
+            ∙ sym (memory-at rows′ (finalMemory rows′ r′ h′) (length r′) link (At i) m e′);
       }
 
   same-on-link : (d d′ : Found) → rowFound rows (length r) link ≡ d → rowFound rows′ (length r′) link ≡ d′ → skewBy rows d ≡ skewBy rows′ d′ → SameOnLink link rows r h rows′ r′ h′

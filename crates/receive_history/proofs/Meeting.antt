@@ -17,12 +17,12 @@ use Rattle.receive.specs.declared.Reception.{Reception}
 use Rattle.receive.specs.declared.Reception.the-variants.{Delivered, Copy, OutOfSequence, UnknownLink, Late}
 use Rattle.receive_sequence.specs.Sequence.{passes}
 use Rattle.receive.specs.Lent.{other, skewIn, rowFound}
-use Rattle.receive.specs.Receive.{told, inSkew}
+use Rattle.receive.specs.Receive.{receptionCode, inSkew}
 use Rattle.receive_sequence.specs.Sequence.{numberCount}
-use Rattle.receive.proofs.Judging.{judged-late, judged-out, by-judged}
-use Rattle.receive_history.specs.History.{Answered, answeredOf, answers, Empty, Octets}
-use Rattle.receive_history.specs.Rule.{ofLink, newestStamp, newestNumber, numbered, unmet, ruleOn, ruleBy, ruleAnswer}
-use Rattle.receive_history.specs.Words.{pastOf, nextAnswer, DeliveryOf, CopyOf, MeetsDelivery, Judged, OthersInWords, CopiesInWords, CopyMeetsDelivery, MetOnce, AloneDelivered}
+use Rattle.receive.proofs.Answering.{reception-late, reception-out, by-reception}
+use Rattle.receive_history.specs.History.{Answered, answeredOf, frameAnswers, Empty, Octets}
+use Rattle.receive_history.specs.Rule.{ofLink, newestTime, newestNumber, numbered, unmet, ruleOn, ruleBy, ruleAnswer}
+use Rattle.receive_history.specs.Words.{pastOf, nextAnswer, DeliveryOf, CopyOf, MeetsDelivery, CopyOrDelivered, OtherReceptionsInWords, CopiesInWords, CopyMeetsDelivery, MetOnce, AloneDelivered}
 use Rattle.receive_history.proofs.Memory.{some?, amount, other-other, numbered-true, numbered-is, unmet-delivered, unmet-other, unmet-met, unmet-still, unmet-out, unmet-unknown, unmet-late, unmet-none}
 use Rattle.receive_history.proofs.Rule.{rule-of-next}
 
@@ -33,7 +33,7 @@ pub record Unmet (x : Network) (n : ℕ) (p : List Answered) (d : ℕ) : Type 0 
   pub earlier : List Answered
   pub stands : p ≡ later ++ (delivery ∷ earlier)
   pub same : DeliveryOf x n delivery
-  pub stamp : delivery .frame .stamp ≡ d
+  pub time : delivery .frame .time ≡ d
   pub latest : (a : Answered) → List·Memᴰ a later → DeliveryOf x n a → ⊥
   pub not-met : (a : Answered) → List·Memᴰ a later → CopyOf (other x) n a → ⊥
 
@@ -47,7 +47,7 @@ module _ (x : Network) (n : ℕ) where
         earlier = q .earlier;
         stands = ap (_∷_ b) (q .stands);
         same = q .same;
-        stamp = q .stamp;
+        time = q .time;
         latest = λ a m.
             first (λ (c : Answered). DeliveryOf x n c → ⊥) a m u (q .latest);
         not-met = λ a m.
@@ -70,37 +70,37 @@ module _ (x : Network) (n : ℕ) where
         earlier = p;
         stands = refl;
         same = (refl, b .0, b .1);
-        stamp = ap amount (sym (unmet-delivered x n f p t) ∙ e);
+        time = ap amount (sym (unmet-delivered x n f p t) ∙ e);
         latest = λ a m. absurd (List·Memᴰ·not-nil m);
         not-met = λ a m. absurd (List·Memᴰ·not-nil m);
       })
       (λ t.
       passed (answeredOf f Delivered) p d
       (λ q. false≢true (sym t ∙ numbered-is x n f (q .1) (q .2)))
-      (λ q. let z : 0 ≡ 30 = ap told (q .0) in omega arith)
+      (λ q. let z : 0 ≡ 30 = ap receptionCode (q .0) in omega arith)
       (ih (sym (unmet-other x n f p t) ∙ e)))
   unmet-more f Copy p d ih e =
       split (numbered (other x) n f)
       (λ t. absurd (false≢true (ap some? (sym (unmet-met x n f p t) ∙ e))))
       (λ t.
       passed (answeredOf f Copy) p d
-      (λ q. let z : 30 ≡ 0 = ap told (q .0) in omega arith)
+      (λ q. let z : 30 ≡ 0 = ap receptionCode (q .0) in omega arith)
       (λ q. false≢true (sym t ∙ numbered-is (other x) n f (q .1) (q .2)))
       (ih (sym (unmet-still x n f p t) ∙ e)))
   unmet-more f OutOfSequence p d ih e =
       passed (answeredOf f OutOfSequence) p d
-      (λ q. let z : 31 ≡ 0 = ap told (q .0) in omega arith)
-      (λ q. let z : 31 ≡ 30 = ap told (q .0) in omega arith)
+      (λ q. let z : 31 ≡ 0 = ap receptionCode (q .0) in omega arith)
+      (λ q. let z : 31 ≡ 30 = ap receptionCode (q .0) in omega arith)
       (ih (sym (unmet-out x n f p) ∙ e))
   unmet-more f UnknownLink p d ih e =
       passed (answeredOf f UnknownLink) p d
-      (λ q. let z : 4 ≡ 0 = ap told (q .0) in omega arith)
-      (λ q. let z : 4 ≡ 30 = ap told (q .0) in omega arith)
+      (λ q. let z : 4 ≡ 0 = ap receptionCode (q .0) in omega arith)
+      (λ q. let z : 4 ≡ 30 = ap receptionCode (q .0) in omega arith)
       (ih (sym (unmet-unknown x n f p) ∙ e))
   unmet-more f Late p d ih e =
       passed (answeredOf f Late) p d
-      (λ q. let z : 8 ≡ 0 = ap told (q .0) in omega arith)
-      (λ q. let z : 8 ≡ 30 = ap told (q .0) in omega arith)
+      (λ q. let z : 8 ≡ 0 = ap receptionCode (q .0) in omega arith)
+      (λ q. let z : 8 ≡ 30 = ap receptionCode (q .0) in omega arith)
       (ih (sym (unmet-late x n f p) ∙ e))
 
   pub unmet-found : (p : List Answered) (d : ℕ) → unmet x n p ≡ some d → Unmet x n p d
@@ -119,7 +119,7 @@ module _ (x : Network) (n : ℕ) where
   -- so the delivery is the one that is found
   pub unmet-is : (later : List Answered) (b : Answered) (earlier : List Answered) → DeliveryOf x n b
       → ((a : Answered) → List·Memᴰ a later → DeliveryOf x n a → ⊥) → ((a : Answered) → List·Memᴰ a later → CopyOf (other x) n a → ⊥)
-      → unmet x n (later ++ (b ∷ earlier)) ≡ some (b .frame .stamp)
+      → unmet x n (later ++ (b ∷ earlier)) ≡ some (b .frame .time)
   unmet-is [] b earlier q u v =
       ap (λ (a : Reception). unmet x n (answeredOf (b .frame) a ∷ earlier)) (q .0)
       ∙ unmet-delivered x n (b .frame) earlier (numbered-is x n (b .frame) (q .1) (q .2))
@@ -129,30 +129,30 @@ module _ (x : Network) (n : ℕ) where
 
 -- ---- a frame and the delivery that it meets
 pub record Within (skew : ℕ) (o : Option ℕ) (t : ℕ) : Type 0 where
-  pub stamp : ℕ
-  pub is : o ≡ some stamp
-  pub not-after : stamp ≤ t
-  pub in-skew : t - stamp ≤ skew
+  pub time : ℕ
+  pub is : o ≡ some time
+  pub not-after : time ≤ t
+  pub in-skew : t - time ≤ skew
 
 pub skew-within : (skew : ℕ) (o : Option ℕ) (t : ℕ) → inSkew skew o t ≡ true → Within skew o t
 unfolding inSkew
 skew-within skew none t e = absurd (false≢true e)
 skew-within skew (some d) t e =
     let b = both (leb d t) (leb (t - d) skew) e in
-    record { stamp = d; is = refl; not-after = leb-true _ _ (b .0); in-skew = leb-true _ _ (b .1) }
+    record { time = d; is = refl; not-after = leb-true _ _ (b .0); in-skew = leb-true _ _ (b .1) }
 
 skew-is : (skew d t : ℕ) → d ≤ t → t - d ≤ skew → inSkew skew (some d) t ≡ true
 unfolding inSkew
 skew-is skew d t h l = ap₂ _&&_ (le-leb _ _ h) (le-leb _ _ l)
 
 module _ (skew : ℕ) (p : List Answered) (f : Arrival) where
-  meets : inSkew skew (unmet (other (f .network)) (f .number) p) (f .stamp) ≡ true → MeetsDelivery skew p f
+  meets : inSkew skew (unmet (other (f .network)) (f .number) p) (f .time) ≡ true → MeetsDelivery skew p f
   meets e =
-      let w = skew-within skew (unmet (other (f .network)) (f .number) p) (f .stamp) e in
-      let q = unmet-found (other (f .network)) (f .number) p (w .stamp) (w .is) in
-      let z : q .delivery .frame .stamp ≡ w .stamp = q .stamp in
-      let u : w .stamp ≤ f .stamp = w .not-after in
-      let v : f .stamp - w .stamp ≤ skew = w .in-skew in
+      let w = skew-within skew (unmet (other (f .network)) (f .number) p) (f .time) e in
+      let q = unmet-found (other (f .network)) (f .number) p (w .time) (w .is) in
+      let z : q .delivery .frame .time ≡ w .time = q .time in
+      let u : w .time ≤ f .time = w .not-after in
+      let v : f .time - w .time ≤ skew = w .in-skew in
       record {
         later = q .later;
         delivery = q .delivery;
@@ -165,45 +165,45 @@ module _ (skew : ℕ) (p : List Answered) (f : Arrival) where
         not-met = λ a m c. q .not-met a m (c .0, c .1 ∙ sym (other-other (f .network)), c .2);
       }
 
-  meeting : MeetsDelivery skew p f → inSkew skew (unmet (other (f .network)) (f .number) p) (f .stamp) ≡ true
+  meeting : MeetsDelivery skew p f → inSkew skew (unmet (other (f .network)) (f .number) p) (f .time) ≡ true
   meeting m =
-      ap (λ (o : Option ℕ). inSkew skew o (f .stamp))
+      ap (λ (o : Option ℕ). inSkew skew o (f .time))
       (ap (unmet (other (f .network)) (f .number)) (m .stands)
       ∙ unmet-is (other (f .network)) (f .number) (m .later) (m .delivery) (m .earlier) (m .same) (m .latest)
       (λ a n c. m .not-met a n (c .0, c .1 ∙ other-other (f .network), c .2)))
-      ∙ skew-is skew (m .delivery .frame .stamp) (f .stamp) (m .not-after) (m .in-skew)
+      ∙ skew-is skew (m .delivery .frame .time) (f .time) (m .not-after) (m .in-skew)
 
   -- the answer that is a copy
-  pub copy-skew : ruleOn skew p f ≡ Copy → inSkew skew (unmet (other (f .network)) (f .number) p) (f .stamp) ≡ true
+  pub copy-skew : ruleOn skew p f ≡ Copy → inSkew skew (unmet (other (f .network)) (f .number) p) (f .time) ≡ true
   unfolding ruleOn
   copy-skew =
-      by-judged skew (newestStamp p) (newestNumber (f .network) p) (unmet (other (f .network)) (f .number) p) (f .number) (f .stamp)
-      (λ a. a ≡ Copy → inSkew skew (unmet (other (f .network)) (f .number) p) (f .stamp) ≡ true)
-      (λ h e. let z : 8 ≡ 30 = ap told e in absurd (omega arith))
-      (λ h q e. let z : 31 ≡ 30 = ap told e in absurd (omega arith))
+      by-reception skew (newestTime p) (newestNumber (f .network) p) (unmet (other (f .network)) (f .number) p) (f .number) (f .time)
+      (λ a. a ≡ Copy → inSkew skew (unmet (other (f .network)) (f .number) p) (f .time) ≡ true)
+      (λ h e. let z : 8 ≡ 30 = ap receptionCode e in absurd (omega arith))
+      (λ h q e. let z : 31 ≡ 30 = ap receptionCode e in absurd (omega arith))
       (λ h q s e. s)
-      (λ h q s e. let z : 0 ≡ 30 = ap told e in absurd (omega arith))
+      (λ h q s e. let z : 0 ≡ 30 = ap receptionCode e in absurd (omega arith))
 
-  module _ (h : newestStamp p ≤ f .stamp) (q : passes (newestNumber (f .network) p) (f .number) ≡ true) where
-    judged-either : (P : Reception → Type 0)
-        → (inSkew skew (unmet (other (f .network)) (f .number) p) (f .stamp) ≡ true → P Copy)
-        → (inSkew skew (unmet (other (f .network)) (f .number) p) (f .stamp) ≡ false → P Delivered)
+  module _ (h : newestTime p ≤ f .time) (q : passes (newestNumber (f .network) p) (f .number) ≡ true) where
+    reception-either : (P : Reception → Type 0)
+        → (inSkew skew (unmet (other (f .network)) (f .number) p) (f .time) ≡ true → P Copy)
+        → (inSkew skew (unmet (other (f .network)) (f .number) p) (f .time) ≡ false → P Delivered)
         → P (ruleOn skew p f)
     unfolding ruleOn
-    judged-either P c d =
-        by-judged skew (newestStamp p) (newestNumber (f .network) p) (unmet (other (f .network)) (f .number) p) (f .number) (f .stamp) P
+    reception-either P c d =
+        by-reception skew (newestTime p) (newestNumber (f .network) p) (unmet (other (f .network)) (f .number) p) (f .number) (f .time) P
         (λ l. absurd (omega arith))
         (λ l z. absurd (false≢true (sym z ∙ q)))
         (λ l z. c)
         (λ l z. d)
 
-    pub rule-judged : Judged skew p f (ruleOn skew p f)
+    pub rule-judged : CopyOrDelivered skew p f (ruleOn skew p f)
     rule-judged =
-        judged-either (Judged skew p f)
+        reception-either (CopyOrDelivered skew p f)
         (λ s. record { copy = (λ e. meets s, λ m. refl); otherwise = λ n. absurd (n (meets s)) })
         (λ s.
         record {
-          copy = (λ e. let z : 0 ≡ 30 = ap told e in absurd (omega arith), λ m. absurd (false≢true (sym s ∙ meeting m)));
+          copy = (λ e. let z : 0 ≡ 30 = ap receptionCode e in absurd (omega arith), λ m. absurd (false≢true (sym s ∙ meeting m)));
           otherwise = λ n. refl;
         })
 
@@ -224,7 +224,7 @@ module _ (rows r : List ℕ) (z : Empty rows r) (before : List Arrival) (o : Oct
 
 pub copies-in-words : CopiesInWords
 copies-in-words rows r z before o f h j e l q =
-    subst (Judged (skewIn rows j) (ofLink (f .link) (pastOf rows r before)) f) (sym (by-rule rows r z before o f h j e))
+    subst (CopyOrDelivered (skewIn rows j) (ofLink (f .link) (pastOf rows r before)) f) (sym (by-rule rows r z before o f h j e))
     (rule-judged (skewIn rows j) (ofLink (f .link) (pastOf rows r before)) f l q)
 
 pub copy-meets-delivery : CopyMeetsDelivery
@@ -238,7 +238,7 @@ alone-delivered rows r z before o f h j e l q u =
     (λ m.
     u (m .delivery) (subst (List·Memᴰ (m .delivery)) (sym (m .stands)) (Memᴰ·append-right (m .later) (List·Memᴰ·head refl))) (m .same) (m .in-skew))
 
--- ---- two places in one list: the first before the second, the same, or behind it
+-- ---- two offsets in one list: the first before the second, the same, or after it
 places : {A : Type 0} (xs : List A) (x : A) (ys : List A) (vs : List A) (v : A) (ws : List A) → xs ++ (x ∷ ys) ≡ vs ++ (v ∷ ws)
     → List·Memᴰ v xs ⊎ ((x ≡ v) ⊎ List·Memᴰ x vs)
 places [] x ys [] v ws e = inr (inl (head-eq-of-cons-eq e))
@@ -257,22 +257,22 @@ met-once rows r z before o f h j e later c earlier s copy none-later q =
     (λ d. none-later (m .delivery) d (m .same))
     (λ d.
     ⊎-elim
-    (λ p. let y : _≡_ {A = ℕ} 30 0 = ap told (sym (copy .0) ∙ ap (λ (a : Answered). a .says) p ∙ m .same .0) in omega arith)
+    (λ p. let y : _≡_ {A = ℕ} 30 0 = ap receptionCode (sym (copy .0) ∙ ap (λ (a : Answered). a .says) p ∙ m .same .0) in omega arith)
     (λ n. m .not-met c n copy) d)
     (places later c earlier (m .later) (m .delivery) (m .earlier) (sym s ∙ m .stands))
 
 -- ---- frames that are not received, or don't pass
-rule-late : (skew : ℕ) (p : List Answered) (f : Arrival) → f .stamp < newestStamp p → ruleOn skew p f ≡ Late
+rule-late : (skew : ℕ) (p : List Answered) (f : Arrival) → f .time < newestTime p → ruleOn skew p f ≡ Late
 unfolding ruleOn
-rule-late skew p f h = sym (judged-late skew (newestStamp p) (newestNumber (f .network) p) (unmet (other (f .network)) (f .number) p) (f .number) (f .stamp) h)
+rule-late skew p f h = sym (reception-late skew (newestTime p) (newestNumber (f .network) p) (unmet (other (f .network)) (f .number) p) (f .number) (f .time) h)
 
-rule-out : (skew : ℕ) (p : List Answered) (f : Arrival) → newestStamp p ≤ f .stamp → passes (newestNumber (f .network) p) (f .number) ≡ false → ruleOn skew p f ≡ OutOfSequence
+rule-out : (skew : ℕ) (p : List Answered) (f : Arrival) → newestTime p ≤ f .time → passes (newestNumber (f .network) p) (f .number) ≡ false → ruleOn skew p f ≡ OutOfSequence
 unfolding ruleOn
 rule-out skew p f h e =
-    sym (judged-out skew (newestStamp p) (newestNumber (f .network) p) (unmet (other (f .network)) (f .number) p) (f .number) (f .stamp) h
+    sym (reception-out skew (newestTime p) (newestNumber (f .network) p) (unmet (other (f .network)) (f .number) p) (f .number) (f .time) h
     (passes (newestNumber (f .network) p) (f .number)) refl (ap not e))
 
-pub others-in-words : OthersInWords
+pub others-in-words : OtherReceptionsInWords
 others-in-words rows r z before o f h =
     let n = rule-of-next rows r z before o f h in
     record {

@@ -14,16 +14,16 @@ use Rattle.receive.specs.declared.Network.{Network}
 use Rattle.receive.specs.declared.Network.the-variants.{A, B}
 use Rattle.receive.specs.declared.Reception.{Reception}
 use Rattle.receive.specs.declared.Reception.the-variants.{Delivered, Copy, OutOfSequence, UnknownLink, Late}
-use Rattle.receive.specs.Lent.{index, other, recordWords, stampPlace, numberPlace, waitsPlace, deliveredPlace, word, deliveryOf, lastStamp, lastNumber, awaiting, noted, met, delivered}
-use Rattle.receive.specs.Receive.{taken, left, answerBy}
-use Rattle.receive.specs.Claims.{SameRecord}
+use Rattle.receive.specs.Lent.{index, other, memoryWords, timeWord, numberWord, awaitingWord, deliveredWord, word, deliveryOf, latestTime, lastNumber, awaiting, noted, met, delivered}
+use Rattle.receive.specs.Receive.{taken, memoryAfter, answerBy}
+use Rattle.receive.specs.Claims.{SameMemory}
 use Rattle.receive_sequence.specs.Sequence.{numberCount, numberOf}
 use Rattle.receive_sequence.proofs.Passing.{number-none}
-use Rattle.receive.proofs.Judging.{delivery-none}
-use Rattle.receive.proofs.Words.{number-inside, waits-inside, delivered-inside}
-use Rattle.receive.proofs.Kept.{noted-room, noted-stamp, noted-number, noted-other, noted-awaiting, met-stamp, met-number, met-same, met-other, delivered-stamp, delivered-number, delivered-same, delivered-other}
+use Rattle.receive.proofs.Answering.{delivery-none}
+use Rattle.receive.proofs.Words.{number-inside, awaiting-inside, delivered-inside}
+use Rattle.receive.proofs.Kept.{noted-room, noted-time, noted-number, noted-other, noted-awaiting, met-time, met-number, met-same, met-other, delivered-time, delivered-number, delivered-same, delivered-other}
 use Rattle.receive_history.specs.History.{Answered, answeredOf}
-use Rattle.receive_history.specs.Rule.{newestStamp, sameNetwork, newestNumber, numbered, unmet, ruleOn}
+use Rattle.receive_history.specs.Rule.{newestTime, sameNetwork, newestNumber, numbered, unmet, ruleOn}
 
 -- ---- options apart, and what they hold
 abbrev pub some? : Option ℕ → Bool
@@ -63,8 +63,8 @@ numbered-true x n f e =
 pub numbered-is : (x : Network) (n : ℕ) (f : Arrival) → f .network ≡ x → f .number ≡ n → numbered x n f ≡ true
 numbered-is x n f p q = ap₂ _&&_ (subst (λ (y : Network). sameNetwork (f .network) y ≡ true) p (network-same (f .network))) (eq-eqb _ _ q)
 
--- ---- deliveries of other networks or numbers have other places
-places : (x y : Network) (n m : ℕ) → n < numberCount → m < numberCount → waitsPlace x n ≡ waitsPlace y m → (x ≡ y) × (n ≡ m)
+-- ---- deliveries of other networks or numbers have other offsets
+places : (x y : Network) (n m : ℕ) → n < numberCount → m < numberCount → awaitingWord x n ≡ awaitingWord y m → (x ≡ y) × (n ≡ m)
 places A A n m h l e = (refl, omega arith)
 places B B n m h l e = (refl, omega arith)
 places A B n m h l e = absurd (omega arith)
@@ -72,9 +72,9 @@ places B A n m h l e = absurd (omega arith)
 
 -- ---- the frames before, with one more
 module _ (f : Arrival) (a : Reception) (p : List Answered) where
-  pub newest-stamp : newestStamp (answeredOf f a ∷ p) ≡ f .stamp
-  unfolding newestStamp
-  newest-stamp = refl
+  pub newest-time : newestTime (answeredOf f a ∷ p) ≡ f .time
+  unfolding newestTime
+  newest-time = refl
 
   newest-same : (x : Network) → sameNetwork (f .network) x ≡ true → newestNumber x (answeredOf f a ∷ p) ≡ some (f .number)
   unfolding newestNumber
@@ -85,7 +85,7 @@ module _ (f : Arrival) (a : Reception) (p : List Answered) where
   newest-other x e = simp e
 
 module _ (x : Network) (n : ℕ) (f : Arrival) (p : List Answered) where
-  pub unmet-delivered : numbered x n f ≡ true → unmet x n (answeredOf f Delivered ∷ p) ≡ some (f .stamp)
+  pub unmet-delivered : numbered x n f ≡ true → unmet x n (answeredOf f Delivered ∷ p) ≡ some (f .time)
   unfolding unmet
   unmet-delivered e = simp e
 
@@ -119,29 +119,29 @@ unmet-none x n = refl
 
 -- ---- record j says what the frames p do
 pub record Represents (r : List ℕ) (j : ℕ) (p : List Answered) : Type 0 where
-  pub stamp : lastStamp r j ≡ newestStamp p
+  pub time : latestTime r j ≡ newestTime p
   pub number : (x : Network) → lastNumber r j x ≡ newestNumber x p
   pub delivery : (x : Network) (n : ℕ) → n < numberCount → awaiting r j x n ≡ unmet x n p
 
 -- an empty record of no frames
-pub empty-says : (r : List ℕ) (j : ℕ) → ((k : ℕ) → k < recordWords → word r j k ≡ 0) → Represents r j []
-unfolding newestStamp newestNumber unmet
+pub empty-says : (r : List ℕ) (j : ℕ) → ((k : ℕ) → k < memoryWords → word r j k ≡ 0) → Represents r j []
+unfolding newestTime newestNumber unmet
 empty-says r j z =
     record {
-      stamp = z stampPlace (omega arith);
-      number = λ x. number-none _ (z (numberPlace x) (number-inside x _ refl));
-      delivery = λ x n h. delivery-none _ _ (z (waitsPlace x n) (waits-inside x n _ refl h));
+      time = z timeWord (omega arith);
+      number = λ x. number-none _ (z (numberWord x) (number-inside x _ refl));
+      delivery = λ x n h. delivery-none _ _ (z (awaitingWord x n) (awaiting-inside x n _ refl h));
     }
 
 -- the same words say the same
-pub same-says : (r s : List ℕ) (j : ℕ) (p : List Answered) → SameRecord s j r j → Represents r j p → Represents s j p
+pub same-says : (r s : List ℕ) (j : ℕ) (p : List Answered) → SameMemory s j r j → Represents r j p → Represents s j p
 same-says r s j p e q =
     record {
-      stamp = e stampPlace (omega arith) ∙ q .stamp;
-      number = λ x. ap numberOf (e (numberPlace x) (number-inside x _ refl)) ∙ q .number x;
+      time = e timeWord (omega arith) ∙ q .time;
+      number = λ x. ap numberOf (e (numberWord x) (number-inside x _ refl)) ∙ q .number x;
       delivery = λ x n h.
           let d = delivered-inside x n _ refl h in
-          ap₂ deliveryOf (e (waitsPlace x n) (waits-inside x n _ refl h)) (e (deliveredPlace x n) (omega arith)) ∙ q .delivery x n h;
+          ap₂ deliveryOf (e (awaitingWord x n) (awaiting-inside x n _ refl h)) (e (deliveredWord x n) (omega arith)) ∙ q .delivery x n h;
     }
 
 -- the answer by the record is the rule's
@@ -149,10 +149,10 @@ pub answer-says : (skew : ℕ) (r : List ℕ) (j : ℕ) (p : List Answered) (f :
     → answerBy skew r j f ≡ ruleOn skew p f
 unfolding answerBy ruleOn
 answer-says skew r j p f h q =
-    rw (q .stamp, q .number (f .network), q .delivery (other (f .network)) (f .number) h) refl
+    rw (q .time, q .number (f .network), q .delivery (other (f .network)) (f .number) h) refl
 
 -- ---- what an answer leaves says one frame more
-module _ (r : List ℕ) (j : ℕ) (room : recordWords * j + recordWords ≤ length r) (p : List Answered) (f : Arrival) (h : f .number < numberCount) (q : Represents r j p) where
+module _ (r : List ℕ) (j : ℕ) (room : memoryWords * j + memoryWords ≤ length r) (p : List Answered) (f : Arrival) (h : f .number < numberCount) (q : Represents r j p) where
   says-number : (a : Reception) (x : Network) → lastNumber (noted r j f) j x ≡ newestNumber x (answeredOf f a ∷ p)
   says-number a x =
       split (sameNetwork (f .network) x)
@@ -164,18 +164,18 @@ module _ (r : List ℕ) (j : ℕ) (room : recordWords * j + recordWords ≤ leng
   says-delivery : (x : Network) (n : ℕ) → n < numberCount → awaiting (noted r j f) j x n ≡ unmet x n p
   says-delivery x n l = noted-awaiting r j room f x n ∙ q .delivery x n l
 
-  out-says : Represents (left r j f OutOfSequence) j (answeredOf f OutOfSequence ∷ p)
+  out-says : Represents (memoryAfter r j f OutOfSequence) j (answeredOf f OutOfSequence ∷ p)
   out-says =
       record {
-        stamp = noted-stamp r j room f ∙ sym (newest-stamp f OutOfSequence p);
+        time = noted-time r j room f ∙ sym (newest-time f OutOfSequence p);
         number = says-number OutOfSequence;
         delivery = λ x n l. says-delivery x n l ∙ sym (unmet-out x n f p);
       }
 
-  copy-says : Represents (left r j f Copy) j (answeredOf f Copy ∷ p)
+  copy-says : Represents (memoryAfter r j f Copy) j (answeredOf f Copy ∷ p)
   copy-says =
       record {
-        stamp = met-stamp (noted r j f) j o (f .number) ∙ noted-stamp r j room f ∙ sym (newest-stamp f Copy p);
+        time = met-time (noted r j f) j o (f .number) ∙ noted-time r j room f ∙ sym (newest-time f Copy p);
         number = λ x. met-number (noted r j f) j o (f .number) x ∙ says-number Copy x;
         delivery = λ x n l.
             split (numbered (other x) n f)
@@ -197,10 +197,10 @@ module _ (r : List ℕ) (j : ℕ) (room : recordWords * j + recordWords ≤ leng
       o : Network
       o = other (f .network)
 
-  delivered-says : Represents (left r j f Delivered) j (answeredOf f Delivered ∷ p)
+  delivered-says : Represents (memoryAfter r j f Delivered) j (answeredOf f Delivered ∷ p)
   delivered-says =
       record {
-        stamp = delivered-stamp (noted r j f) j f ∙ noted-stamp r j room f ∙ sym (newest-stamp f Delivered p);
+        time = delivered-time (noted r j f) j f ∙ noted-time r j room f ∙ sym (newest-time f Delivered p);
         number = λ x. delivered-number (noted r j f) j f x ∙ says-number Delivered x;
         delivery = λ x n l.
             split (numbered x n f)
@@ -218,7 +218,7 @@ module _ (r : List ℕ) (j : ℕ) (room : recordWords * j + recordWords ≤ leng
             ∙ sym (unmet-other x n f p e));
       }
 
-  pub left-says : (a : Reception) → taken a ≡ true → Represents (left r j f a) j (answeredOf f a ∷ p)
+  pub left-says : (a : Reception) → taken a ≡ true → Represents (memoryAfter r j f a) j (answeredOf f a ∷ p)
   left-says Delivered e = delivered-says
   left-says Copy e = copy-says
   left-says OutOfSequence e = out-says

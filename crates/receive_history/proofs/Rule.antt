@@ -15,13 +15,13 @@ use Rattle.rows.specs.declared.Found.the-variants.{At, Nowhere}
 use Rattle.receive.specs.declared.Arrival.{Arrival}
 use Rattle.receive.specs.declared.Reception.{Reception}
 use Rattle.receive.specs.declared.Reception.the-variants.{UnknownLink}
-use Rattle.receive.specs.Lent.{skewRowOctets, skewIn, recordWords, rowFound}
-use Rattle.receive.specs.Receive.{taken, After, afterOf, left, answerBy, onRecord, received}
+use Rattle.receive.specs.Lent.{skewRowOctets, skewIn, memoryWords, rowFound}
+use Rattle.receive.specs.Receive.{taken, Received, receivedOf, memoryAfter, answerBy, onMemory, received}
 use Rattle.receive_sequence.specs.Sequence.{numberCount}
-use Rattle.receive.proofs.Judging.{refused-leaves, call-at, call-nowhere}
+use Rattle.receive.proofs.Answering.{refused-leaves, call-at, call-nowhere}
 use Rattle.receive.proofs.Kept.{left-beside}
-use Rattle.receive.proofs.Claims.{row-is-first, record-whole, only-record}
-use Rattle.receive_history.specs.History.{Answered, answeredOf, receiving, final, Empty, Octets, onLink}
+use Rattle.receive.proofs.Claims.{row-is-first, memory-whole, only-memory}
+use Rattle.receive_history.specs.History.{Answered, answeredOf, receiving, finalMemory, Empty, Octets, onLink}
 use Rattle.receive_history.specs.Rule.{receivedOn, ofLink, ruleBy, ruleAnswer, ruleOfFrames}
 use Rattle.receive_history.specs.Claims.{RuleOfReceptions}
 use Rattle.receive_history.specs.Words.{pastOf, RuleOfNext}
@@ -34,9 +34,9 @@ rows-apart rows words l m i j p q d e =
     let b = row-is-first rows words m j q .1 in
     d (sym a ∙ ap (λ (k : ℕ). numberAt 2 rows (skewRowOctets * k)) e ∙ b)
 
-abbrev place : Found → ℕ
-place (At j) = j
-place Nowhere = 0
+abbrev at : Found → ℕ
+at (At j) = j
+at Nowhere = 0
 
 -- ---- one frame more among those that a link received
 module _ (l : ℕ) (f : Arrival) (p : List Answered) where
@@ -55,16 +55,16 @@ pub record Stands (rows : List ℕ) (words : ℕ) (p : List Answered) (r : List 
   pub each : (l j : ℕ) → rowFound rows words l ≡ At j → Represents r j (ofLink l p)
 
 -- what one call answers by the rule, and that the records stand after it
-pub record Step (rows : List ℕ) (words : ℕ) (p : List Answered) (f : Arrival) (z : After) : Type 0 where
+pub record Step (rows : List ℕ) (words : ℕ) (p : List Answered) (f : Arrival) (z : Received) : Type 0 where
   pub says : z .says ≡ ruleAnswer rows words p f
-  pub stands : Stands rows words (answeredOf f (z .says) ∷ p) (z .records)
+  pub stands : Stands rows words (answeredOf f (z .says) ∷ p) (z .memory)
 
 module _ (rows : List ℕ) (words : ℕ) (p : List Answered) (r : List ℕ) (st : Stands rows words p r) (f : Arrival) (h : f .number < numberCount) where
   by-length : (d : Found) → rowFound rows words (f .link) ≡ d → rowFound rows (length r) (f .link) ≡ d
   by-length d e = ap (λ (n : ℕ). rowFound rows n (f .link)) (st .long) ∙ e
 
   -- a link with no row
-  unknown-step : rowFound rows words (f .link) ≡ Nowhere → Step rows words p f (afterOf UnknownLink r)
+  unknown-step : rowFound rows words (f .link) ≡ Nowhere → Step rows words p f (receivedOf UnknownLink r)
   unfolding ruleAnswer
   unknown-step e =
       record {
@@ -77,39 +77,39 @@ module _ (rows : List ℕ) (words : ℕ) (p : List Answered) (r : List ℕ) (st 
       }
 
   module _ (j : ℕ) (e : rowFound rows words (f .link) ≡ At j) where
-    whole : recordWords * j + recordWords ≤ length r
-    whole = let w = record-whole rows words (f .link) j e in let q = st .long in omega arith
+    whole : memoryWords * j + memoryWords ≤ length r
+    whole = let w = memory-whole rows words (f .link) j e in let q = st .long in omega arith
 
     -- the record of the frame's own link
-    own : (a : Reception) (l i : ℕ) → rowFound rows words l ≡ At i → onLink l f ≡ true → Represents (left r j f a) i (ofLink l (answeredOf f a ∷ p))
+    own : (a : Reception) (l i : ℕ) → rowFound rows words l ≡ At i → onLink l f ≡ true → Represents (memoryAfter r j f a) i (ofLink l (answeredOf f a ∷ p))
     own a l i q on =
         let m : f .link ≡ l = eqb-true _ _ on in
-        let k : j ≡ i = ap place (sym e ∙ ap (rowFound rows words) m ∙ q) in
-        subst (λ (x : ℕ). Represents (left r j f a) x (ofLink l (answeredOf f a ∷ p))) k
+        let k : j ≡ i = ap at (sym e ∙ ap (rowFound rows words) m ∙ q) in
+        subst (λ (x : ℕ). Represents (memoryAfter r j f a) x (ofLink l (answeredOf f a ∷ p))) k
         (split (taken a)
         (λ t.
-        subst (Represents (left r j f a) j) (sym (joins l f p a on t))
+        subst (Represents (memoryAfter r j f a) j) (sym (joins l f p a on t))
         (left-says r j whole (ofLink l p) f h (subst (λ (x : ℕ). Represents r x (ofLink l p)) (sym k) (st .each l i q)) a t))
         (λ t.
-        subst (Represents (left r j f a) j) (sym (refused-stays l f p a t))
+        subst (Represents (memoryAfter r j f a) j) (sym (refused-stays l f p a t))
         (subst (λ (s : List ℕ). Represents s j (ofLink l p)) (sym (refused-leaves r j f a t))
         (subst (λ (x : ℕ). Represents r x (ofLink l p)) (sym k) (st .each l i q)))))
 
     -- those of others
-    others : (a : Reception) (l i : ℕ) → rowFound rows words l ≡ At i → onLink l f ≡ false → Represents (left r j f a) i (ofLink l (answeredOf f a ∷ p))
+    others : (a : Reception) (l i : ℕ) → rowFound rows words l ≡ At i → onLink l f ≡ false → Represents (memoryAfter r j f a) i (ofLink l (answeredOf f a ∷ p))
     others a l i q off =
         let d = rows-apart rows words l (f .link) i j q e (λ m. eqb-false _ _ off (sym m)) in
-        subst (Represents (left r j f a) i) (sym (other-stays l f p a off))
-        (same-says r (left r j f a) i (ofLink l p) (left-beside r j f a h i d) (st .each l i q))
+        subst (Represents (memoryAfter r j f a) i) (sym (other-stays l f p a off))
+        (same-says r (memoryAfter r j f a) i (ofLink l p) (left-beside r j f a h i d) (st .each l i q))
 
-    known-step : Step rows words p f (onRecord (skewIn rows j) r j f)
+    known-step : Step rows words p f (onMemory (skewIn rows j) r j f)
     unfolding ruleAnswer
     known-step =
         record {
           says = answer-says (skewIn rows j) r j (ofLink (f .link) p) f h (st .each (f .link) j e) ∙ ap (ruleBy rows p f) (sym e);
           stands =
               record {
-                long = only-record r j f (answerBy (skewIn rows j) r j f) h .long ∙ st .long;
+                long = only-memory r j f (answerBy (skewIn rows j) r j f) h .long ∙ st .long;
                 each = λ l i q.
                     split (onLink l f)
                     (own (answerBy (skewIn rows j) r j f) l i q)
@@ -132,7 +132,7 @@ each-frame rows words h o =
       each = λ f i p r st.
           let s = one-step rows words p r st f (o f i) in
           let a = ap (answeredOf f) (s .says) in
-          (a, subst (λ (b : Answered). Stands rows words (b ∷ p) (received rows r f .records)) a (s .stands));
+          (a, subst (λ (b : Answered). Stands rows words (b ∷ p) (received rows r f .memory)) a (s .stands));
     }
 
 -- ---- from empty records
@@ -148,13 +148,13 @@ rule-of-receptions rows r z h o = same-answers h (each-frame rows (length r) h o
 
 -- the past of the rule is that of the answers
 stands-after : (rows r : List ℕ) → Empty rows r → (before : List Arrival) → Octets before
-    → Stands rows (length r) (pastOf rows r before) (final rows r before)
+    → Stands rows (length r) (pastOf rows r before) (finalMemory rows r before)
 stands-after rows r z before o =
-    subst (λ (p : List Answered). Stands rows (length r) p (final rows r before))
+    subst (λ (p : List Answered). Stands rows (length r) p (finalMemory rows r before))
     (final-answers (λ past f. answeredOf f (ruleAnswer rows (length r) past f)) before []
     ∙ ap reverse (sym (rule-of-receptions rows r z before o)))
     (simulated before (each-frame rows (length r) before o) [] r (starts rows r z) .1)
 
 pub rule-of-next : RuleOfNext
 rule-of-next rows r z before o f h =
-    one-step rows (length r) (pastOf rows r before) (final rows r before) (stands-after rows r z before o) f h .says
+    one-step rows (length r) (pastOf rows r before) (finalMemory rows r before) (stands-after rows r z before o) f h .says

@@ -6,15 +6,15 @@ use lib.ListN.{length}
 use Rattle.lists.specs.Claims.{PickedAnswers}
 use Rattle.receive.specs.declared.Arrival.{Arrival}
 use Rattle.receive_sequence.specs.Claims.{PassTable}
-use Rattle.receive.specs.Claims.{AnswersApart, PossibleAnswers, RefusedKeeps, UnknownExactly, RowIsFirst, RowIsNowhere, RowsBeyondUnread, ChangesOwnRecord, StampAndNumberKept, ByOwnRecord}
-use Rattle.receive_history.specs.History.{answers, Empty, Octets}
+use Rattle.receive.specs.Claims.{AnswersApart, PossibleAnswers, RefusedKeeps, UnknownExactly, RowIsFirst, RowIsNowhere, SkewRowsBeyondUnread, ChangesOwnMemory, TimeAndNumberStored, ByOwnMemory}
+use Rattle.receive_history.specs.History.{frameAnswers, Empty, Octets}
 use Rattle.receive_history.specs.Rule.{ruleAnswers}
 use Rattle.receive_history.specs.Isolation.{ReceptionsApart}
-use Rattle.receive_history.specs.Words.{RuleOfNext, OthersInWords, CopiesInWords, CopyMeetsDelivery, MetOnce, OneCopyEach, AloneDelivered}
+use Rattle.receive_history.specs.Words.{RuleOfNext, OtherReceptionsInWords, CopiesInWords, CopyMeetsDelivery, MetOnce, OneCopyEach, AloneDelivered}
 
 -- ---- the rule: for any rows, any empty records and any list of frames, the answers of the whole list are the rule's
 abbrev pub RuleOfReceptions : Type 0
-RuleOfReceptions = (rows r : List ℕ) → Empty rows r → (h : List Arrival) → Octets h → answers rows r h ≡ ruleAnswers rows (length r) h
+RuleOfReceptions = (rows r : List ℕ) → Empty rows r → (h : List Arrival) → Octets h → frameAnswers rows r h ≡ ruleAnswers rows (length r) h
 
 -- ---- the whole of request Q-1
 pub record ReceivingEnd : Type 0 where
@@ -24,14 +24,14 @@ pub record ReceivingEnd : Type 0 where
   pub unknown-exactly : UnknownExactly
   pub row-is-first : RowIsFirst
   pub row-is-nowhere : RowIsNowhere
-  pub rows-beyond : RowsBeyondUnread
-  pub changes-own-record : ChangesOwnRecord
-  pub stamp-and-number-kept : StampAndNumberKept
-  pub by-own-record : ByOwnRecord
+  pub rows-beyond : SkewRowsBeyondUnread
+  pub changes-own-memory : ChangesOwnMemory
+  pub time-and-number-stored : TimeAndNumberStored
+  pub by-own-memory : ByOwnMemory
   pub pass-table : PassTable
   pub rule : RuleOfReceptions
   pub rule-of-next : RuleOfNext
-  pub others-in-words : OthersInWords
+  pub others-in-words : OtherReceptionsInWords
   pub copies-in-words : CopiesInWords
   pub copy-meets-delivery : CopyMeetsDelivery
   pub met-once : MetOnce

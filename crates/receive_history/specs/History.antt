@@ -12,7 +12,7 @@ use Rattle.rows.specs.declared.Found.{Found}
 use Rattle.rows.specs.declared.Found.the-variants.{At, Nowhere}
 use Rattle.receive.specs.declared.Arrival.{Arrival}
 use Rattle.receive.specs.declared.Reception.{Reception}
-use Rattle.receive.specs.Lent.{skewIn, recordWords, rowsInUse, rowFound, word}
+use Rattle.receive.specs.Lent.{skewIn, memoryWords, rowsInUse, rowFound, word}
 use Rattle.receive.specs.Receive.{received}
 use Rattle.receive_sequence.specs.Sequence.{numberCount}
 
@@ -26,18 +26,18 @@ answeredOf f a = record { frame = f; says = a }
 
 -- frames received by these rows: what a frame is answered, and the records that it leaves
 abbrev pub receiving : List ℕ → Machine (List ℕ) Arrival Answered
-receiving rows = record { says = λ r f. answeredOf f (received rows r f .says); leaves = λ r f. received rows r f .records }
+receiving rows = record { says = λ r f. answeredOf f (received rows r f .says); leaves = λ r f. received rows r f .memory }
 
 -- what the frames of a list are answered, and the records that the last one leaves
-abbrev pub answers : List ℕ → List ℕ → List Arrival → List Answered
-answers rows r h = History.answers (receiving rows) r h
+abbrev pub frameAnswers : List ℕ → List ℕ → List Arrival → List Answered
+frameAnswers rows r h = History.answers (receiving rows) r h
 
-abbrev pub final : List ℕ → List ℕ → List Arrival → List ℕ
-final rows r h = History.final (receiving rows) r h
+abbrev pub finalMemory : List ℕ → List ℕ → List Arrival → List ℕ
+finalMemory rows r h = History.final (receiving rows) r h
 
 -- the records of the rows in use are empty
 abbrev pub Empty : List ℕ → List ℕ → Type 0
-Empty rows r = (j : ℕ) → j < rowsInUse (length rows) (length r) → (k : ℕ) → k < recordWords → word r j k ≡ 0
+Empty rows r = (j : ℕ) → j < rowsInUse (length rows) (length r) → (k : ℕ) → k < memoryWords → word r j k ≡ 0
 
 -- sequence numbers are octets, as those of every call are
 abbrev pub Octets : List Arrival → Type 0
@@ -54,9 +54,9 @@ skewBy rows (At j) = some (skewIn rows j)
 abbrev pub skewOf : List ℕ → List ℕ → ℕ → Option ℕ
 skewOf rows r link = skewBy rows (rowFound rows (length r) link)
 
-abbrev pub recordBy : List ℕ → Found → List ℕ
-recordBy r Nowhere = []
-recordBy r (At j) = take recordWords (drop (recordWords * j) r)
+abbrev pub memoryBy : List ℕ → Found → List ℕ
+memoryBy r Nowhere = []
+memoryBy r (At j) = take memoryWords (drop (memoryWords * j) r)
 
-abbrev pub recordOf : List ℕ → List ℕ → ℕ → List ℕ
-recordOf rows r link = recordBy r (rowFound rows (length r) link)
+abbrev pub memoryOf : List ℕ → List ℕ → ℕ → List ℕ
+memoryOf rows r link = memoryBy r (rowFound rows (length r) link)

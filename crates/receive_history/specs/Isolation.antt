@@ -4,13 +4,13 @@ use mathlib.Core.List.{List}
 use mathlib.Core.Path.{_≡_}
 use Rattle.lists.specs.Lists.{only, answersTo}
 use Rattle.receive.specs.declared.Arrival.{Arrival}
-use Rattle.receive_history.specs.History.{answers, final, Empty, Octets, onLink, skewOf, recordOf}
+use Rattle.receive_history.specs.History.{frameAnswers, finalMemory, Empty, Octets, onLink, skewOf, memoryOf}
 
 -- what two histories share, each with rows and records of its own, where the link has the same SkewMax in both and the
 -- frames on it are the same: the answers to these, and the record that they leave
 pub record SameOnLink (link : ℕ) (rows r : List ℕ) (h : List Arrival) (rows′ r′ : List ℕ) (h′ : List Arrival) : Type 0 where
-  pub says : answersTo (onLink link) h (answers rows r h) ≡ answersTo (onLink link) h′ (answers rows′ r′ h′)
-  pub leaves : recordOf rows (final rows r h) link ≡ recordOf rows′ (final rows′ r′ h′) link
+  pub says : answersTo (onLink link) h (frameAnswers rows r h) ≡ answersTo (onLink link) h′ (frameAnswers rows′ r′ h′)
+  pub leaves : memoryOf rows (finalMemory rows r h) link ≡ memoryOf rows′ (finalMemory rows′ r′ h′) link
 
 abbrev pub ReceptionsApart : Type 0
 ReceptionsApart =

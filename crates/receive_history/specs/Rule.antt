@@ -16,7 +16,7 @@ use Rattle.receive.specs.declared.Network.the-variants.{A, B}
 use Rattle.receive.specs.declared.Reception.{Reception}
 use Rattle.receive.specs.declared.Reception.the-variants.{Delivered, Copy, OutOfSequence, UnknownLink, Late}
 use Rattle.receive.specs.Lent.{other, skewIn, rowFound}
-use Rattle.receive.specs.Receive.{taken, judged}
+use Rattle.receive.specs.Receive.{taken, receptionBy}
 use Rattle.receive_history.specs.History.{Answered, answeredOf, onLink}
 
 -- ---- the frames that a link received: not those refused with 4 or 8. Lists of frames before have the newest first
@@ -26,10 +26,10 @@ receivedOn link a = onLink link (a .frame) && taken (a .says)
 abbrev pub ofLink : ℕ → List Answered → List Answered
 ofLink link past = only (receivedOn link) past
 
--- ---- what they say: the last stamp, on either network
-unfoldable pub newestStamp : List Answered → ℕ
-newestStamp [] = 0
-newestStamp (a ∷ past) = a .frame .stamp
+-- ---- what they say: the last time, on either network
+unfoldable pub newestTime : List Answered → ℕ
+newestTime [] = 0
+newestTime (a ∷ past) = a .frame .time
 
 -- the last number on a network
 abbrev pub sameNetwork : Network → Network → Bool
@@ -42,13 +42,13 @@ unfoldable pub newestNumber : Network → List Answered → Option ℕ
 newestNumber x [] = none
 newestNumber x (a ∷ past) = if sameNetwork (a .frame .network) x then some (a .frame .number) else newestNumber x past
 
--- the stamp of the latest delivery of number n on a network, if it hasn't met its copy. Going back, the first that matters is either
+-- the time of the latest delivery of number n on a network, if it hasn't met its copy. Going back, the first that matters is either
 -- this delivery, or a copy of n on the other network, which met it
 abbrev pub numbered : Network → ℕ → Arrival → Bool
 numbered x n f = sameNetwork (f .network) x && eqb (f .number) n
 
 abbrev pub unmetBy : Network → ℕ → Arrival → Reception → Option ℕ → Option ℕ
-unmetBy x n f Delivered d = if numbered x n f then some (f .stamp) else d
+unmetBy x n f Delivered d = if numbered x n f then some (f .time) else d
 unmetBy x n f Copy d = if numbered (other x) n f then none else d
 unmetBy x n f OutOfSequence d = d
 unmetBy x n f UnknownLink d = d
@@ -61,7 +61,7 @@ unmet x n (a ∷ past) = unmetBy x n (a .frame) (a .says) (unmet x n past)
 -- ---- the answer to a frame: on a link with this SkewMax that received these
 unfoldable pub ruleOn : ℕ → List Answered → Arrival → Reception
 ruleOn skew past f =
-    judged skew (newestStamp past) (newestNumber (f .network) past) (unmet (other (f .network)) (f .number) past) (f .number) (f .stamp)
+    receptionBy skew (newestTime past) (newestNumber (f .network) past) (unmet (other (f .network)) (f .number) past) (f .number) (f .time)
 
 abbrev pub ruleBy : List ℕ → List Answered → Arrival → Found → Reception
 ruleBy rows past f Nowhere = UnknownLink

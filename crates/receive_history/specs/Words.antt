@@ -14,15 +14,15 @@ use Rattle.receive.specs.declared.Reception.the-variants.{Delivered, Copy, OutO
 use Rattle.receive_sequence.specs.Sequence.{numberCount, passes}
 use Rattle.receive.specs.Lent.{other, skewIn, rowFound}
 use Rattle.receive.specs.Receive.{received}
-use Rattle.receive_history.specs.History.{Answered, answers, final, Empty, Octets, onLink}
-use Rattle.receive_history.specs.Rule.{ofLink, newestStamp, newestNumber, numbered, ruleAnswer}
+use Rattle.receive_history.specs.History.{Answered, frameAnswers, finalMemory, Empty, Octets, onLink}
+use Rattle.receive_history.specs.Rule.{ofLink, newestTime, newestNumber, numbered, ruleAnswer}
 
--- ---- the rule, of one frame f behind the frames `before`. `pastOf`: these with their answers, the newest first
+-- ---- the rule, of one frame f after the frames `before`. `pastOf`: these with their answers, the newest first
 abbrev pub pastOf : List ℕ → List ℕ → List Arrival → List Answered
-pastOf rows r before = reverse (answers rows r before)
+pastOf rows r before = reverse (frameAnswers rows r before)
 
 abbrev pub nextAnswer : List ℕ → List ℕ → List Arrival → Arrival → Reception
-nextAnswer rows r before f = received rows (final rows r before) f .says
+nextAnswer rows r before f = received rows (finalMemory rows r before) f .says
 
 abbrev pub RuleOfNext : Type 0
 RuleOfNext =
@@ -32,12 +32,12 @@ RuleOfNext =
 -- ---- in words. A frame that no row is for, one that is late, one that doesn't pass; the frames that its link received settle these
 pub record OtherAnswers (rows : List ℕ) (words : ℕ) (past : List Answered) (f : Arrival) (a : Reception) : Type 0 where
   pub unknown : rowFound rows words (f .link) ≡ Nowhere → a ≡ UnknownLink
-  pub late : (j : ℕ) → rowFound rows words (f .link) ≡ At j → f .stamp < newestStamp (ofLink (f .link) past) → a ≡ Late
-  pub out : (j : ℕ) → rowFound rows words (f .link) ≡ At j → newestStamp (ofLink (f .link) past) ≤ f .stamp
+  pub late : (j : ℕ) → rowFound rows words (f .link) ≡ At j → f .time < newestTime (ofLink (f .link) past) → a ≡ Late
+  pub out : (j : ℕ) → rowFound rows words (f .link) ≡ At j → newestTime (ofLink (f .link) past) ≤ f .time
       → passes (newestNumber (f .network) (ofLink (f .link) past)) (f .number) ≡ false → a ≡ OutOfSequence
 
-abbrev pub OthersInWords : Type 0
-OthersInWords =
+abbrev pub OtherReceptionsInWords : Type 0
+OtherReceptionsInWords =
     (rows r : List ℕ) → Empty rows r → (before : List Arrival) → Octets before → (f : Arrival) → f .number < numberCount
     → OtherAnswers rows (length r) (pastOf rows r before) f (nextAnswer rows r before f)
 
@@ -49,20 +49,20 @@ abbrev pub CopyOf : Network → ℕ → Answered → Type 0
 CopyOf x n a = (a .says ≡ Copy) × (a .frame .network ≡ x) × (a .frame .number ≡ n)
 
 -- the delivery that a frame f is the copy of, among the frames that its link received before it: of the same number, on the other
--- network, not stamped after it, no more than SkewMax old; no later frame there is another such delivery or the copy of this one
+-- network, not timed after it, no more than SkewMax old; no later frame there is another such delivery or the copy of this one
 pub record MeetsDelivery (skew : ℕ) (past : List Answered) (f : Arrival) : Type 0 where
   pub later : List Answered
   pub delivery : Answered
   pub earlier : List Answered
   pub stands : past ≡ later ++ (delivery ∷ earlier)
   pub same : DeliveryOf (other (f .network)) (f .number) delivery
-  pub not-after : delivery .frame .stamp ≤ f .stamp
-  pub in-skew : f .stamp - delivery .frame .stamp ≤ skew
+  pub not-after : delivery .frame .time ≤ f .time
+  pub in-skew : f .time - delivery .frame .time ≤ skew
   pub latest : (a : Answered) → List·Memᴰ a later → DeliveryOf (other (f .network)) (f .number) a → ⊥
   pub not-met : (a : Answered) → List·Memᴰ a later → CopyOf (f .network) (f .number) a → ⊥
 
 -- a frame that is not late and passes is a copy exactly where it meets a delivery, else it is delivered
-pub record Judged (skew : ℕ) (past : List Answered) (f : Arrival) (a : Reception) : Type 0 where
+pub record CopyOrDelivered (skew : ℕ) (past : List Answered) (f : Arrival) (a : Reception) : Type 0 where
   pub copy : (a ≡ Copy) ↔ MeetsDelivery skew past f
   pub otherwise : (MeetsDelivery skew past f → ⊥) → a ≡ Delivered
 
@@ -70,9 +70,9 @@ abbrev pub CopiesInWords : Type 0
 CopiesInWords =
     (rows r : List ℕ) → Empty rows r → (before : List Arrival) → Octets before → (f : Arrival) → f .number < numberCount
     → (j : ℕ) → rowFound rows (length r) (f .link) ≡ At j
-    → newestStamp (ofLink (f .link) (pastOf rows r before)) ≤ f .stamp
+    → newestTime (ofLink (f .link) (pastOf rows r before)) ≤ f .time
     → passes (newestNumber (f .network) (ofLink (f .link) (pastOf rows r before))) (f .number) ≡ true
-    → Judged (skewIn rows j) (ofLink (f .link) (pastOf rows r before)) f (nextAnswer rows r before f)
+    → CopyOrDelivered (skewIn rows j) (ofLink (f .link) (pastOf rows r before)) f (nextAnswer rows r before f)
 
 -- every copy, whatever came before, meets a delivery of its number on the other network
 abbrev pub CopyMeetsDelivery : Type 0
@@ -81,7 +81,7 @@ CopyMeetsDelivery =
     → (j : ℕ) → rowFound rows (length r) (f .link) ≡ At j
     → nextAnswer rows r before f ≡ Copy → MeetsDelivery (skewIn rows j) (ofLink (f .link) (pastOf rows r before)) f
 
--- and each delivery at most one copy: behind a copy of a number there is no second one before that number is delivered on the other
+-- and each delivery at most one copy: after a copy of a number there is no second one before that number is delivered on the other
 -- network again
 abbrev pub MetOnce : Type 0
 MetOnce =
@@ -116,15 +116,15 @@ copies link x n past = length (only (λ a. onLink link (a .frame) && (numbered x
 abbrev pub OneCopyEach : Type 0
 OneCopyEach =
     (rows r : List ℕ) → Empty rows r → (h : List Arrival) → Octets h → (link : ℕ) (x : Network) (n : ℕ)
-    → copies link x n (answers rows r h) ≤ deliveries link (other x) n (answers rows r h)
+    → copies link x n (frameAnswers rows r h) ≤ deliveries link (other x) n (frameAnswers rows r h)
 
 -- a number that passes on one network alone is delivered: none of that number was delivered on the other within SkewMax
 abbrev pub AloneDelivered : Type 0
 AloneDelivered =
     (rows r : List ℕ) → Empty rows r → (before : List Arrival) → Octets before → (f : Arrival) → f .number < numberCount
     → (j : ℕ) → rowFound rows (length r) (f .link) ≡ At j
-    → newestStamp (ofLink (f .link) (pastOf rows r before)) ≤ f .stamp
+    → newestTime (ofLink (f .link) (pastOf rows r before)) ≤ f .time
     → passes (newestNumber (f .network) (ofLink (f .link) (pastOf rows r before))) (f .number) ≡ true
     → ((a : Answered) → List·Memᴰ a (ofLink (f .link) (pastOf rows r before)) → DeliveryOf (other (f .network)) (f .number) a
-    → f .stamp - a .frame .stamp ≤ skewIn rows j → ⊥)
+    → f .time - a .frame .time ≤ skewIn rows j → ⊥)
     → nextAnswer rows r before f ≡ Delivered

@@ -5,7 +5,7 @@ use mathlib.Core.Option.{none, some}
 use mathlib.Core.Path.{_≡_}
 use Rattle.receive_sequence.specs.Sequence.{passes}
 
--- which of 0, 1, 2, 3, 253, 254 and 255 pass, first and behind 0, 252, 253, 254 and 255
+-- which of 0, 1, 2, 3, 253, 254 and 255 pass, first and after 0, 252, 253, 254 and 255
 abbrev pub PassTable : Type 0
 PassTable =
     map (λ last. map (passes last) (0 ∷ 1 ∷ 2 ∷ 3 ∷ 253 ∷ 254 ∷ 255 ∷ []))

@@ -16,7 +16,7 @@ greatestNumber = 255
 unfoldable pub next : ℕ → ℕ
 next n = if eqb n greatestNumber then 1 else n + 1
 
--- whether number n passes behind the last one received on its network: the first, 0, and one or two steps on
+-- whether number n passes after the last one received on its network: the first, 0, and one or two steps on
 unfoldable pub passes : Option ℕ → ℕ → Bool
 passes none n = true
 passes (some p) n = eqb n 0 || eqb n (next p) || eqb n (next (next p))

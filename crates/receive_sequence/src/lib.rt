@@ -1,4 +1,4 @@
-// Sequence numbers of frames: what follows a number, and whether one passes behind the last. Every function is total.
+// Sequence numbers of frames: what follows a number, and whether one passes after the last. Every function is total.
 ghost use mathlib.Core.Path.{_≡_};
 ghost use Rattle.receive_sequence.specs.Sequence.{next, passes, numberOf};
 
@@ -8,7 +8,7 @@ const GREATEST_NUMBER: u8 = 255;
 const GREATEST_HELD: u64 = 256;
 
 // One step on; 0 never comes again.
-fn one_on(number: u8) -> u8
+fn next(number: u8) -> u8
     ensures { λ r. ⌜ r ≡ next number ⌝ }
 {
     if number == GREATEST_NUMBER {
@@ -18,7 +18,7 @@ fn one_on(number: u8) -> u8
     }
 }
 
-// Whether a number passes behind the last one, which is held in a word. A word that holds no number of an octet is
+// Whether a number passes after the last one, which is held in a word. A word that holds no number of an octet is
 // followed by 0 alone.
 pub fn passes(held: u64, number: u8) -> bool
     ensures { λ r. ⌜ r ≡ passes (numberOf held) number ⌝ }
@@ -33,9 +33,9 @@ pub fn passes(held: u64, number: u8) -> bool
         return false;
     }
     let last = (held - 1) as u8;
-    let one = one_on(last);
+    let one = next(last);
     if number == one {
         return true;
     }
-    number == one_on(one)
+    number == next(one)
 }

@@ -12,70 +12,70 @@ const READ_OCTETS: usize = 4 * replay_log::log::LONGEST_RECORD;
 
 const WRITE_OCTETS: usize = 65536;
 
-// Where a replay stands: how many octets are at hand, its place in them, its place in the room for lines, how many
+// Where a replay stands: how many octets are at hand, its offset in them, its offset in the room for lines, how many
 // frames are answered, and whether it is over.
 struct Progress {
-    hand: usize,
+    filled: usize,
     at: usize,
-    place: usize,
+    next: usize,
     frames: u64,
     over: bool,
 }
 
-// Writes the lines laid so far.
-fn flush(out: &[u8], place: usize) {
-    let end = octets::least(place, out.len());
+// Writes the lines written so far.
+fn flush(out: &[u8], next: usize) {
+    let end = octets::least(next, out.len());
     io::write_all(STDOUT_FILENO, &out[0..end]);
 }
 
-// A place with room for any line; what was laid is written where there is none.
-fn with_room(out: &[u8], place: usize) -> usize {
-    if octets::has_room(out.len(), place, replay_text::LONGEST_LINE) {
-        return place;
+// An offset with room for any line; what was written is written where there is none.
+fn with_room(out: &[u8], next: usize) -> usize {
+    if octets::has_room(out.len(), next, replay_text::LONGEST_LINE) {
+        return next;
     }
-    flush(out, place);
+    flush(out, next);
     0
 }
 
 // The line of an answer.
-fn say(out: &mut [u8], place: usize, number: u64, verdict: Verdict) -> usize {
-    let at = with_room(out, place);
+fn say(out: &mut [u8], next: usize, number: u64, verdict: Verdict) -> usize {
+    let at = with_room(out, next);
     replay_text::put_line(out, at, number, verdict)
 }
 
-fn say_cut(out: &mut [u8], place: usize) -> usize {
-    let at = with_room(out, place);
+fn say_cut(out: &mut [u8], next: usize) -> usize {
+    let at = with_room(out, next);
     replay_text::put_cut(out, at)
 }
 
-// Behind the last frame at hand: more is to be read, or the replay is over.
+// After the last frame at hand: more is to be read, or the replay is over.
 fn stop(
     entry: Entry,
-    hand: usize,
+    filled: usize,
     at: usize,
-    place: usize,
+    next: usize,
     frames: u64,
     out: &mut [u8],
 ) -> Progress {
     match entry {
         Entry::More => Progress {
-            hand,
+            filled,
             at,
-            place,
+            next,
             frames,
             over: false,
         },
         Entry::Cut => Progress {
-            hand,
+            filled,
             at,
-            place: say_cut(out, place),
+            next: say_cut(out, next),
             frames,
             over: true,
         },
         _ => Progress {
-            hand,
+            filled,
             at,
-            place,
+            next,
             frames,
             over: true,
         },
@@ -83,7 +83,7 @@ fn stop(
 }
 
 // Answers the frames at hand, up to the first that isn't there whole.
-fn answer_hand(
+fn answer_filled(
     log: &[u8],
     whole: bool,
     from: Progress,
@@ -96,16 +96,16 @@ fn answer_hand(
     links: &[u8],
 ) -> Progress {
     let mut at = from.at;
-    let mut place = from.place;
+    let mut next = from.next;
     let mut frames = from.frames;
     while frames < u64::MAX {
         let entry = replay_log::log::next(log, at, whole);
-        let Entry::Frame(stamp) = entry else {
-            return stop(entry, from.hand, at, place, frames, out);
+        let Entry::Frame(logged) = entry else {
+            return stop(entry, from.filled, at, next, frames, out);
         };
         let verdict = answer(
             log,
-            stamp,
+            logged,
             settings,
             buffer,
             accounts,
@@ -114,17 +114,17 @@ fn answer_hand(
             links,
         );
         frames += 1;
-        place = say(out, place, frames, verdict);
-        at = stamp.behind;
+        next = say(out, next, frames, verdict);
+        at = logged.next;
     }
-    stop(Entry::End, from.hand, at, place, frames, out)
+    stop(Entry::End, from.filled, at, next, frames, out)
 }
 
-// Moves what is left at hand to the front and reads on behind it; how many octets are then at hand.
-fn refill(file: i32, log: &mut [u8], at: usize, hand: usize) -> usize
+// Moves what is left at hand to the front and reads on after it; how many octets are then at hand.
+fn refill(file: i32, log: &mut [u8], at: usize, filled: usize) -> usize
     ensures { λ r. ⌜ r ≤ length (now (log .exit)) ⌝ }
 {
-    let end = octets::least(hand, log.len());
+    let end = octets::least(filled, log.len());
     let rest = end - octets::least(at, end);
     replay_log::log::to_front(log, at, rest);
     rest + io::read_full(file, &mut log[rest..])
@@ -143,17 +143,17 @@ fn turn(
     lasts: &mut [u64],
     links: &[u8],
 ) -> Progress {
-    let hand = refill(file, log, progress.at, progress.hand);
+    let filled = refill(file, log, progress.at, progress.filled);
     let from = Progress {
-        hand,
+        filled,
         at: 0,
-        place: progress.place,
+        next: progress.next,
         frames: progress.frames,
         over: false,
     };
-    let whole = hand < log.len();
-    answer_hand(
-        &log[0..hand],
+    let whole = filled < log.len();
+    answer_filled(
+        &log[0..filled],
         whole,
         from,
         settings,
@@ -183,7 +183,7 @@ fn run(
     let mut turns = u64::MAX;
     while 0 < turns {
         if progress.over {
-            return progress.place;
+            return progress.next;
         }
         progress = turn(
             file,
@@ -199,7 +199,7 @@ fn run(
         );
         turns -= 1;
     }
-    progress.place
+    progress.next
 }
 
 // Replays a log that is open for reading, by the tables that were loaded.
@@ -215,13 +215,13 @@ pub(crate) fn replay(
     let mut buffer = [0u8; frame::LARGEST_FRAME];
     let mut out = [0u8; WRITE_OCTETS];
     let start = Progress {
-        hand: 0,
+        filled: 0,
         at: 0,
-        place: replay_text::put_header(&mut out, 0),
+        next: replay_text::put_header(&mut out, 0),
         frames: 0,
         over: false,
     };
-    let place = run(
+    let next = run(
         file,
         &mut log,
         start,
@@ -233,5 +233,5 @@ pub(crate) fn replay(
         lasts,
         links,
     );
-    flush(&out, place);
+    flush(&out, next);
 }

@@ -1,7 +1,7 @@
 // Replays the rig in the current folder: loads `rig.cfg` and answers the frames of `rig.frames`, one line each.
 mod log;
 
-use image_read::Loaded;
+use image_read::ImageAnswer;
 use libc::STDOUT_FILENO;
 
 // Runs that hold the tables of any image.
@@ -12,7 +12,12 @@ const ACCOUNT_ROWS: usize = tables::ACCOUNT_OCTETS * ACCOUNTS;
 const LINK_ROWS: usize = tables::LINK_OCTETS * image_layout::MAX_LINKS as usize;
 
 // Loads `rig.cfg`; a file that can't be opened or read is empty. No more of it is read than settles its answer.
-fn load(accounts: &mut [u8], credits: &mut [u32], lasts: &mut [u64], links: &mut [u8]) -> Loaded {
+fn load(
+    accounts: &mut [u8],
+    credits: &mut [u32],
+    lasts: &mut [u64],
+    links: &mut [u8],
+) -> ImageAnswer {
     let mut image = [0u8; image_layout::IMAGE_PREFIX];
     let file = os::open_read(b"rig.cfg");
     let n = io::read_full(file, &mut image);

@@ -13,13 +13,13 @@ use Rattle.frame.specs.Limits.{largestFrame}
 use Rattle.frame.specs.Frame.{lengthCode}
 use Rattle.frame.proofs.Frame.{length-long}
 use Rattle.tables.specs.Rows.{Config}
-use Rattle.switch.specs.Verdict.{told}
+use Rattle.switch.specs.Verdict.{reported}
 use Rattle.switch.specs.declared.Verdict.the-variants.{Refused}
 use Rattle.switch.specs.Call.{State, callOf, After, afterOf, called}
 use Rattle.filter.proofs.Filter.{frame-length, route-stopped}
 use Rattle.switch.proofs.Call.{call-stopped}
-use Rattle.replay_log.specs.declared.log.Stamped.{Stamped}
-use Rattle.replay_log.specs.Answer.{answeredOf, answered, recordCall}
+use Rattle.replay_log.specs.declared.log.FrameRecord.{FrameRecord}
+use Rattle.replay_log.specs.Answer.{repliedOf, replied, recordCall}
 
 -- a part from the start
 pub part-first : (n : ℕ) (s : List ℕ) → take (n - 0) (drop 0 s) ≡ take n s
@@ -32,23 +32,23 @@ called-same g s os ps port time a e f = f ∙ ap (λ (xs : List ℕ). called g s
 
 -- a frame that is too long is answered by its length alone
 pub called-long : (g : Config) (s : State) (os : List ℕ) (port time x : ℕ) → x ≡ lengthCode (length os) → largestFrame < length os
-    → afterOf (told (Refused x)) s ≡ called g s (callOf os port time)
+    → afterOf (reported (Refused x)) s ≡ called g s (callOf os port time)
 called-long g s os port time x e h =
     let two : lengthCode (length os) ≡ 2 = length-long (length os) (omega arith) h in
     let some : x ≡ 0 → ⊥ = λ z. omega arith in
     call-stopped g s (callOf os port time) _ (route-stopped os (g .constant) (g .links) (g .linkCount) x (frame-length (g .constant) os x e some) some) x refl
 
-module _ (g : Config) (s : State) (d log : List ℕ) (r : Stamped) where
+module _ (g : Config) (s : State) (d log : List ℕ) (r : FrameRecord) where
   pub answer-skipped : (x : ℕ) (b : List ℕ) → b ≡ put d 0 (octetsAt (r .size) log (r .start)) → x ≡ lengthCode (r .size) → largestFrame < r .size
-      → answeredOf (afterOf (told (Refused x)) s) b ≡ answered g s d (recordCall log r)
+      → repliedOf (afterOf (reported (Refused x)) s) b ≡ replied g s d (recordCall log r)
   answer-skipped x b f e h =
       let n : length (octetsAt (r .size) log (r .start)) ≡ r .size = length-part (r .size) log (r .start) in
-      ap₂ answeredOf (called-long g s (octetsAt (r .size) log (r .start)) (r .port) (r .time) x (e ∙ ap lengthCode (sym n)) (omega arith)) f
+      ap₂ repliedOf (called-long g s (octetsAt (r .size) log (r .start)) (r .port) (r .time) x (e ∙ ap lengthCode (sym n)) (omega arith)) f
 
   pub answer-copied : (a : After) (b : List ℕ) → b ≡ put d 0 (octetsAt (r .size) log (r .start)) → r .size ≤ length d
-      → a ≡ called g s (callOf (take (r .size) b) (r .port) (r .time)) → answeredOf a b ≡ answered g s d (recordCall log r)
+      → a ≡ called g s (callOf (take (r .size) b) (r .port) (r .time)) → repliedOf a b ≡ replied g s d (recordCall log r)
   answer-copied a b e h f =
       let xs : List ℕ = octetsAt (r .size) log (r .start) in
       let n : length xs ≡ r .size = length-part (r .size) log (r .start) in
       let t : take (r .size) b ≡ xs = ap (take (r .size)) (e ∙ put-fits d 0 xs (omega arith)) ∙ take-at xs (drop (0 + length xs) d) (r .size) n in
-      ap₂ answeredOf (called-same g s (take (r .size) b) xs (r .port) (r .time) a t f) e
+      ap₂ repliedOf (called-same g s (take (r .size) b) xs (r .port) (r .time) a t f) e

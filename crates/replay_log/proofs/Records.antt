@@ -9,7 +9,7 @@ use borrow.Author.Tests.{le-leb, leb-true, lt-leb, lt-ltb, le-ltb, eq-eqb, ne-eq
 use Rattle.octets.specs.Numbers.{numberAt}
 use Rattle.fields.specs.Fields.{tagAndLength, lengthAt, fieldAt}
 use Rattle.fields.specs.declared.Field.{Field}
-use Rattle.replay_log.specs.Records.{recordTag, timeOctets, stampOctets, portPlace, frameStart, unsettled, stampAt, recordAt, nextIn}
+use Rattle.replay_log.specs.Records.{recordTag, timeOctets, timeAndPortOctets, portOffset, frameStart, unsettled, frameRecordAt, recordAt, nextIn}
 use Rattle.replay_log.specs.declared.log.Entry.{Entry}
 use Rattle.replay_log.specs.declared.log.Entry.the-variants.{Frame, More, Cut, End}
 
@@ -23,25 +23,25 @@ open-more w e = simp e
 
 -- ---- a record whose tag and length are there
 module _ (s : List ℕ) (at : ℕ) (w : Bool) (n : ℕ) (e : n ≡ lengthAt s at) where
-  pub stamped-short : n < stampOctets → Cut ≡ recordAt s at w
+  pub logged-short : n < timeAndPortOctets → Cut ≡ recordAt s at w
   unfolding recordAt
-  stamped-short h = simp (lt-ltb (lengthAt s at) stampOctets (rw e at h))
+  logged-short h = simp (lt-ltb (lengthAt s at) timeAndPortOctets (rw e at h))
 
-  module _ (h : stampOctets ≤ n) (b : Bool) (f : b ≡ leb (at + (tagAndLength + n)) (length s)) where
-    test : ltb (lengthAt s at) stampOctets ≡ false
-    test = le-ltb (lengthAt s at) stampOctets (rw e at h)
+  module _ (h : timeAndPortOctets ≤ n) (b : Bool) (f : b ≡ leb (at + (tagAndLength + n)) (length s)) where
+    test : ltb (lengthAt s at) timeAndPortOctets ≡ false
+    test = le-ltb (lengthAt s at) timeAndPortOctets (rw e at h)
 
     room : b ≡ leb (at + (tagAndLength + lengthAt s at)) (length s)
     room = rw e at f
 
-    pub stamped-open : (x : Entry) → not b ≡ true → x ≡ unsettled w → x ≡ recordAt s at w
+    pub logged-open : (x : Entry) → not b ≡ true → x ≡ unsettled w → x ≡ recordAt s at w
     unfolding recordAt
-    stamped-open x l g = g ∙ simp (test, sym room ∙ not-true b l)
+    logged-open x l g = g ∙ simp (test, sym room ∙ not-true b l)
 
-    pub stamped-frame : (t p : ℕ) → not b ≡ false → t ≡ numberAt timeOctets s (at + tagAndLength) → p ≡ getD s (at + portPlace) 0
-        → Frame (record { time = t; port = p; start = at + frameStart; size = n - stampOctets; behind = at + (tagAndLength + n) }) ≡ recordAt s at w
-    unfolding recordAt stampAt
-    stamped-frame t p l g k = simp (test, sym room ∙ not-false b l, g, k, e)
+    pub logged-frame : (t p : ℕ) → not b ≡ false → t ≡ numberAt timeOctets s (at + tagAndLength) → p ≡ getD s (at + portOffset) 0
+        → Frame (record { time = t; port = p; start = at + frameStart; size = n - timeAndPortOctets; next = at + (tagAndLength + n) }) ≡ recordAt s at w
+    unfolding recordAt frameRecordAt
+    logged-frame t p l g k = simp (test, sym room ∙ not-false b l, g, k, e)
 
 -- the same, by the field that stands there
 module _ (s : List ℕ) (at : ℕ) (w : Bool) (g : Field) (e : g ≡ fieldAt s at) where
@@ -54,18 +54,18 @@ module _ (s : List ℕ) (at : ℕ) (w : Bool) (g : Field) (e : g ≡ fieldAt s a
   pub field-inside : not (g .whole) ≡ false → at + (tagAndLength + g .size) ≤ length s
   field-inside h = leb-true _ _ (sym room-is ∙ not-false (g .whole) h)
 
-  pub field-short : g .size < stampOctets → Cut ≡ recordAt s at w
-  field-short = stamped-short s at w (g .size) size-is
+  pub field-short : g .size < timeAndPortOctets → Cut ≡ recordAt s at w
+  field-short = logged-short s at w (g .size) size-is
 
-  module _ (h : stampOctets ≤ g .size) where
+  module _ (h : timeAndPortOctets ≤ g .size) where
     pub field-open : (x : Entry) → not (g .whole) ≡ true → x ≡ unsettled w → x ≡ recordAt s at w
-    field-open = stamped-open s at w (g .size) size-is h (g .whole) room-is
+    field-open = logged-open s at w (g .size) size-is h (g .whole) room-is
 
-    pub field-frame : (t p : ℕ) → not (g .whole) ≡ false → t ≡ numberAt timeOctets s (at + tagAndLength) → p ≡ getD s (at + portPlace) 0
-        → Frame (record { time = t; port = p; start = at + frameStart; size = g .size - stampOctets; behind = at + (tagAndLength + g .size) }) ≡ recordAt s at w
-    field-frame = stamped-frame s at w (g .size) size-is h (g .whole) room-is
+    pub field-frame : (t p : ℕ) → not (g .whole) ≡ false → t ≡ numberAt timeOctets s (at + tagAndLength) → p ≡ getD s (at + portOffset) 0
+        → Frame (record { time = t; port = p; start = at + frameStart; size = g .size - timeAndPortOctets; next = at + (tagAndLength + g .size) }) ≡ recordAt s at w
+    field-frame = logged-frame s at w (g .size) size-is h (g .whole) room-is
 
--- ---- what stands at a place
+-- ---- what stands at an offset
 module _ (s : List ℕ) (at : ℕ) (w : Bool) where
   pub next-end : length s ≤ at → w ≡ true → End ≡ nextIn s at w
   unfolding nextIn
@@ -85,6 +85,6 @@ module _ (s : List ℕ) (at : ℕ) (w : Bool) where
       unfolding nextIn
       next-open l g = g ∙ simp (lt-leb (length s) at h, eq-eqb (getD s at 0) recordTag (sym e ∙ d), sym f ∙ not-true b l)
 
-      pub next-stamped : not b ≡ false → r ≡ recordAt s at w → r ≡ nextIn s at w
+      pub next-logged : not b ≡ false → r ≡ recordAt s at w → r ≡ nextIn s at w
       unfolding nextIn
-      next-stamped l g = g ∙ simp (lt-leb (length s) at h, eq-eqb (getD s at 0) recordTag (sym e ∙ d), sym f ∙ not-false b l)
+      next-logged l g = g ∙ simp (lt-leb (length s) at h, eq-eqb (getD s at 0) recordTag (sym e ∙ d), sym f ∙ not-false b l)

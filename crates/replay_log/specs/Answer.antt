@@ -4,20 +4,20 @@ use mathlib.Core.List.{List}
 use Rattle.octets.specs.Runs.{octetsAt, put}
 use Rattle.tables.specs.Rows.{Config}
 use Rattle.switch.specs.Call.{State, Call, callOf, After, called}
-use Rattle.replay_log.specs.declared.log.Stamped.{Stamped}
+use Rattle.replay_log.specs.declared.log.FrameRecord.{FrameRecord}
 
 -- the call that a record of a log stands for
-abbrev pub recordCall : List ℕ → Stamped → Call
+abbrev pub recordCall : List ℕ → FrameRecord → Call
 recordCall log r = callOf (octetsAt (r .size) log (r .start)) (r .port) (r .time)
 
 -- what is answered and left, and what the frame buffer then holds
-pub record Answered : Type 0 where
+pub record Replied : Type 0 where
   pub after : After
   pub buffer : List ℕ
 
-abbrev pub answeredOf : After → List ℕ → Answered
-answeredOf a d = record { after = a; buffer = d }
+abbrev pub repliedOf : After → List ℕ → Replied
+repliedOf a d = record { after = a; buffer = d }
 
 -- the frame call on the record's octets, however many; the buffer begins with them, or is as it was where they are too many
-abbrev pub answered : Config → State → List ℕ → Call → Answered
-answered g s d f = answeredOf (called g s f) (put d 0 (f .octets))
+abbrev pub replied : Config → State → List ℕ → Call → Replied
+replied g s d f = repliedOf (called g s f) (put d 0 (f .octets))

@@ -7,22 +7,22 @@ use lib.ListN.{length, getD}
 use Rattle.frame.specs.Limits.{largestFrame}
 use Rattle.tables.specs.Rows.{Config}
 use Rattle.switch.specs.declared.Verdict.the-variants.{Refused}
-use Rattle.switch.specs.Verdict.{told}
+use Rattle.switch.specs.Verdict.{reported}
 use Rattle.switch.specs.Call.{State, afterOf, called}
 use Rattle.replay_log.specs.Answer.{recordCall}
 use Rattle.replay_log.specs.Records.{frameStart, longestRecord, nextIn}
-use Rattle.replay_log.specs.declared.log.Stamped.{Stamped}
+use Rattle.replay_log.specs.declared.log.FrameRecord.{FrameRecord}
 use Rattle.replay_log.specs.declared.log.Entry.{Entry}
 use Rattle.replay_log.specs.declared.log.Entry.the-variants.{Frame, More, Cut, End}
 
 -- ---- how much of a log is at hand never decides an answer
--- what is told without more octets is told with them, whichever they are
+-- what is reported without more octets is reported with them, whichever they are
 abbrev pub NextSettled : Type 0
 NextSettled = (s t : List ℕ) (at : ℕ) (whole : Bool) → (nextIn s at false ≡ More → ⊥) → nextIn (s ++ t) at whole ≡ nextIn s at false
 
--- the octets before the place play no part
+-- the octets before the offset play no part
 abbrev pub moved : ℕ → Entry → Entry
-moved k (Frame r) = Frame (record { time = r .time; port = r .port; start = k + r .start; size = r .size; behind = k + r .behind })
+moved k (Frame r) = Frame (record { time = r .time; port = r .port; start = k + r .start; size = r .size; next = k + r .next })
 moved k More = More
 moved k Cut = Cut
 moved k End = End
@@ -34,14 +34,14 @@ NextMoved = (t s : List ℕ) (at : ℕ) (whole : Bool) → nextIn (t ++ s) (leng
 abbrev pub NeverMore : Type 0
 NeverMore = (s : List ℕ) (at : ℕ) → ((i : ℕ) → getD s i 0 < 256) → at + longestRecord ≤ length s → nextIn s at false ≡ More → ⊥
 
--- a frame told lies at hand whole, and the place behind it is right behind it
+-- a frame reported lies at hand whole, and the offset after it is right after it
 abbrev pub FrameInside : Type 0
 FrameInside =
-    (s : List ℕ) (at : ℕ) (whole : Bool) (r : Stamped) → nextIn s at whole ≡ Frame r
-    → (r .start ≡ at + frameStart) × (r .behind ≡ r .start + r .size) × (r .behind ≤ length s)
+    (s : List ℕ) (at : ℕ) (whole : Bool) (r : FrameRecord) → nextIn s at whole ≡ Frame r
+    → (r .start ≡ at + frameStart) × (r .next ≡ r .start + r .size) × (r .next ≤ length s)
 
 -- a frame longer than any is answered 2, and nothing changes
 abbrev pub LongFrameSkipped : Type 0
 LongFrameSkipped =
-    (g : Config) (s : State) (log : List ℕ) (r : Stamped) → largestFrame < r .size
-    → called g s (recordCall log r) ≡ afterOf (told (Refused 2)) s
+    (g : Config) (s : State) (log : List ℕ) (r : FrameRecord) → largestFrame < r .size
+    → called g s (recordCall log r) ≡ afterOf (reported (Refused 2)) s

@@ -7,7 +7,7 @@ use lib.Dec.{leb, ltb, eqb}
 use Rattle.lists.specs.Choice.{if_then_else_}
 use Rattle.octets.specs.Numbers.{numberAt}
 use Rattle.fields.specs.Fields.{tagAndLength, lengthAt, fieldAt}
-use Rattle.replay_log.specs.declared.log.Stamped.{Stamped}
+use Rattle.replay_log.specs.declared.log.FrameRecord.{FrameRecord}
 use Rattle.replay_log.specs.declared.log.Entry.{Entry}
 use Rattle.replay_log.specs.declared.log.Entry.the-variants.{Frame, More, Cut, End}
 
@@ -18,15 +18,15 @@ recordTag = 16
 abbrev pub timeOctets : ℕ
 timeOctets = 8
 
-abbrev pub stampOctets : ℕ
-stampOctets = timeOctets + 1
+abbrev pub timeAndPortOctets : ℕ
+timeAndPortOctets = timeOctets + 1
 
 -- tag and length stand before the time, the time before the port, and that before the frame
-abbrev pub portPlace : ℕ
-portPlace = tagAndLength + timeOctets
+abbrev pub portOffset : ℕ
+portOffset = tagAndLength + timeOctets
 
 abbrev pub frameStart : ℕ
-frameStart = tagAndLength + stampOctets
+frameStart = tagAndLength + timeAndPortOctets
 
 -- a record as long as two octets of length can make it
 abbrev pub longestRecord : ℕ
@@ -37,24 +37,24 @@ unfoldable pub unsettled : Bool → Entry
 unsettled whole = if whole then Cut else More
 
 -- a record that is there whole
-unfoldable pub stampAt : List ℕ → ℕ → Stamped
-stampAt s at =
+unfoldable pub frameRecordAt : List ℕ → ℕ → FrameRecord
+frameRecordAt s at =
     record {
       time = numberAt timeOctets s (at + tagAndLength);
-      port = getD s (at + portPlace) 0;
+      port = getD s (at + portOffset) 0;
       start = at + frameStart;
-      size = lengthAt s at - stampOctets;
-      behind = at + (tagAndLength + lengthAt s at);
+      size = lengthAt s at - timeAndPortOctets;
+      next = at + (tagAndLength + lengthAt s at);
     }
 
 -- a record whose tag and length are there: a length under 9, data cut, or a frame
 unfoldable pub recordAt : List ℕ → ℕ → Bool → Entry
 recordAt s at whole =
-    if ltb (lengthAt s at) stampOctets then Cut
+    if ltb (lengthAt s at) timeAndPortOctets then Cut
     else if not (fieldAt s at .whole) then unsettled whole
-    else Frame (stampAt s at)
+    else Frame (frameRecordAt s at)
 
--- what stands at a place of the octets s; `whole` says that the log has none behind them
+-- what stands at an offset of the octets s; `whole` says that the log has none after them
 unfoldable pub nextIn : List ℕ → ℕ → Bool → Entry
 nextIn s at whole =
     if leb (length s) at then (if whole then End else More)

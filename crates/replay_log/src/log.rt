@@ -10,14 +10,14 @@ const RECORD_TAG: u8 = 16;
 // The octets of a time, and those of a time and a port, which a record's length counts.
 const TIME_OCTETS: usize = 8;
 
-const STAMP_OCTETS: usize = TIME_OCTETS + 1;
+const TIME_AND_PORT_OCTETS: usize = TIME_OCTETS + 1;
 
 // How far into a record its port stands, and its frame.
-const PORT_PLACE: usize = fields::TAG_AND_LENGTH + TIME_OCTETS;
+const PORT_OFFSET: usize = fields::TAG_AND_LENGTH + TIME_OCTETS;
 
-const FRAME_START: usize = fields::TAG_AND_LENGTH + STAMP_OCTETS;
+const FRAME_START: usize = fields::TAG_AND_LENGTH + TIME_AND_PORT_OCTETS;
 
-// The longest record. So many octets from a place on always settle what stands there.
+// The longest record. So many octets from an offset on always settle what stands there.
 pub const LONGEST_RECORD: usize = fields::TAG_AND_LENGTH + 65535;
 
 // The same as a value.
@@ -27,18 +27,18 @@ pub fn longest_record() -> usize
     LONGEST_RECORD
 }
 
-// A frame that a log holds: its time and port, `size` octets from `start` on, and the place behind them.
-pub struct Stamped {
+// A frame that a log holds: its time and port, `size` octets from `start` on, and the offset after them.
+pub struct FrameRecord {
     pub time: u64,
     pub port: u8,
     pub start: usize,
     pub size: usize,
-    pub behind: usize,
+    pub next: usize,
 }
 
-// What stands at a place of a log.
+// What stands at an offset of a log.
 pub enum Entry {
-    Frame(Stamped),
+    Frame(FrameRecord),
     // Too few octets at hand to say.
     More,
     // No record: another tag, too short a length, or the log's end within it.
@@ -60,22 +60,22 @@ fn record_at(log: &[u8], at: usize, field: Field, whole: bool) -> Entry
     ensures { λ r. ⌜ r ≡ recordAt (now (log .entry)) at whole ⌝ }
 {
     let length = field.size as usize;
-    if length < STAMP_OCTETS {
+    if length < TIME_AND_PORT_OCTETS {
         return Entry::Cut;
     }
     if !field.whole {
         return unsettled(whole);
     }
-    Entry::Frame(Stamped {
+    Entry::Frame(FrameRecord {
         time: octets::u64_at(log, at + fields::TAG_AND_LENGTH),
-        port: octets::octet_at(log, at + PORT_PLACE),
+        port: octets::octet_at(log, at + PORT_OFFSET),
         start: at + FRAME_START,
-        size: length - STAMP_OCTETS,
-        behind: at + (fields::TAG_AND_LENGTH + length),
+        size: length - TIME_AND_PORT_OCTETS,
+        next: at + (fields::TAG_AND_LENGTH + length),
     })
 }
 
-// What stands at a place of the octets at hand; `whole` says that the log has none behind them.
+// What stands at an offset of the octets at hand; `whole` says that the log has none after them.
 pub fn next(log: &[u8], at: usize, whole: bool) -> Entry
     ensures { λ r. ⌜ r ≡ nextIn (now (log .entry)) at whole ⌝ }
 {
@@ -92,7 +92,7 @@ pub fn next(log: &[u8], at: usize, whole: bool) -> Entry
     record_at(log, at, field, whole)
 }
 
-// A part of a log moved to its front, for more to be read behind it.
+// A part of a log moved to its front, for more to be read after it.
 pub fn to_front(log: &mut [u8], at: usize, size: usize)
     ensures { λ r. ⌜ now (log .exit) ≡ put (now (log .entry)) 0 (octetsAt size (now (log .entry)) at) ⌝ }
 {

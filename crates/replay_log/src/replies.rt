@@ -2,11 +2,11 @@
 ghost use mathlib.Core.Path.{_≡_};
 ghost use Prim.Native.Nat.{_≤_};
 ghost use lib.ListN.{length, take};
-ghost use Rattle.switch.specs.Verdict.{told};
+ghost use Rattle.switch.specs.Verdict.{reported};
 ghost use Rattle.switch.specs.Call.{stateOf, callOf, afterOf, called};
 ghost use Rattle.tables.specs.Rows.{configFor};
-ghost use Rattle.replay_log.specs.Answer.{recordCall, answeredOf, answered};
-use super::log::Stamped;
+ghost use Rattle.replay_log.specs.Answer.{recordCall, repliedOf, replied};
+use super::log::FrameRecord;
 use switch::Ingress;
 use switch::Verdict;
 use tables::Settings;
@@ -14,24 +14,24 @@ use tables::Settings;
 // The call of the frame that a buffer begins with.
 fn judge(
     buffer: &[u8],
-    stamp: Stamped,
+    logged: FrameRecord,
     settings: Settings,
     accounts: &[u8],
     credits: &mut [u32],
     lasts: &mut [u64],
     links: &[u8],
 ) -> Verdict
-    requires { ⌜ stamp .size ≤ length (now buffer) ⌝ }
-    ensures { λ r. ⌜ afterOf (told r) (stateOf (now (credits .exit)) (now (lasts .exit)))
+    requires { ⌜ logged .size ≤ length (now buffer) ⌝ }
+    ensures { λ r. ⌜ afterOf (reported r) (stateOf (now (credits .exit)) (now (lasts .exit)))
         ≡ called
         (configFor settings (now (accounts .entry)) (now (links .entry)))
         (stateOf (now (credits .entry)) (now (lasts .entry)))
-        (callOf (take (stamp .size) (now (buffer .entry))) (stamp .port) (stamp .time)) ⌝ }
+        (callOf (take (logged .size) (now (buffer .entry))) (logged .port) (logged .time)) ⌝ }
 {
-    let size = stamp.size;
+    let size = logged.size;
     let ingress = Ingress {
-        port: stamp.port as u32,
-        time: stamp.time,
+        port: logged.port as u32,
+        time: logged.time,
     };
     switch::frame_call(
         &buffer[0..size],
@@ -48,7 +48,7 @@ fn judge(
 // part of it; one that is longer than the buffer is skipped over: nothing of it is copied.
 pub fn answer(
     log: &[u8],
-    stamp: Stamped,
+    logged: FrameRecord,
     settings: Settings,
     buffer: &mut [u8; frame::LARGEST_FRAME],
     accounts: &[u8],
@@ -56,16 +56,16 @@ pub fn answer(
     lasts: &mut [u64],
     links: &[u8],
 ) -> Verdict
-    ensures { λ r. ⌜ answeredOf (afterOf (told r) (stateOf (now (credits .exit)) (now (lasts .exit)))) (now (buffer .exit))
-        ≡ answered
+    ensures { λ r. ⌜ repliedOf (afterOf (reported r) (stateOf (now (credits .exit)) (now (lasts .exit)))) (now (buffer .exit))
+        ≡ replied
         (configFor settings (now (accounts .entry)) (now (links .entry)))
         (stateOf (now (credits .entry)) (now (lasts .entry)))
         (now (buffer .entry))
-        (recordCall (now (log .entry)) stamp) ⌝ }
+        (recordCall (now (log .entry)) logged) ⌝ }
 {
-    octets_write::copy(log, stamp.start, stamp.size, buffer, 0);
-    if frame::LARGEST_FRAME < stamp.size {
-        return Verdict::Refused(frame::length_code(stamp.size));
+    octets_write::copy(log, logged.start, logged.size, buffer, 0);
+    if frame::LARGEST_FRAME < logged.size {
+        return Verdict::Refused(frame::length_code(logged.size));
     }
-    judge(buffer, stamp, settings, accounts, credits, lasts, links)
+    judge(buffer, logged, settings, accounts, credits, lasts, links)
 }

@@ -21,7 +21,7 @@ unfolding digitsOf
 length-digits zero x = refl
 length-digits (suc w) x = simp length-append (omega (arith, length-digits w (x / 10)))
 
--- a digit more, in front
+-- a digit more, before it
 pub digits-front : (k x : ℕ) → digitsOf (suc k) x ≡ (zeroChar + tensLeft x k % 10) ∷ digitsOf k x
 unfolding digitsOf
 digits-front zero x = ap (λ (y : ℕ). (zeroChar + y % 10) ∷ []) (sym (div-one x) ∙ ap (λ (y : ℕ). x / y) (sym (pow-zero 10)))
@@ -89,17 +89,17 @@ width-below x j h =
     let n : 10 ^ suc j ≡ 10 * 10 ^ j = pow-succ' 10 j in
     absurd (omega arith))
 
--- ---- digits laid from the last to the first: those from i on are laid, and so much of the number is left
+-- ---- digits written from the last to the first: those from i on are written, and so much of the number is left
 module _ (w x i r : ℕ) (p : 0 < i) (q : i ≤ w) (e : r ≡ tensLeft x (w - i)) where
   more : w - (i - 1) ≡ suc (w - i)
   more = omega arith
 
-  pub lay-rest : r / 10 ≡ tensLeft x (w - (i - 1))
-  lay-rest = tens-next x (w - i) r e ∙ ap (tensLeft x) (sym more)
+  pub digits-rest : r / 10 ≡ tensLeft x (w - (i - 1))
+  digits-rest = tens-next x (w - i) r e ∙ ap (tensLeft x) (sym more)
 
-  pub lay-digit : (d : List ℕ) (at : ℕ) (t : List ℕ) → at + w ≤ length d → t ≡ put d (at + i) (digitsOf (w - i) x)
+  pub digits-digit : (d : List ℕ) (at : ℕ) (t : List ℕ) → at + w ≤ length d → t ≡ put d (at + i) (digitsOf (w - i) x)
       → set t (at + (i - 1)) (zeroChar + r % 10) ≡ put d (at + (i - 1)) (digitsOf (w - (i - 1)) x)
-  lay-digit d at t h f =
+  digits-digit d at t h f =
       let l = length-digits (w - i) x in
       let n : at + i ≡ suc (at + (i - 1)) = omega arith in
       ap (λ (s : List ℕ). set s (at + (i - 1)) (zeroChar + r % 10)) (f ∙ ap (λ (m : ℕ). put d m (digitsOf (w - i) x)) n)
@@ -108,14 +108,14 @@ module _ (w x i r : ℕ) (p : 0 < i) (q : i ≤ w) (e : r ≡ tensLeft x (w - i)
       (ap (λ (y : ℕ). (zeroChar + y % 10) ∷ digitsOf (w - i) x) e
       ∙ sym (digits-front (w - i) x) ∙ ap (λ (m : ℕ). digitsOf m x) (sym more))
 
-pub lay-start : (d : List ℕ) (at w x : ℕ) → d ≡ put d (at + w) (digitsOf (w - w) x)
+pub digits-start : (d : List ℕ) (at w x : ℕ) → d ≡ put d (at + w) (digitsOf (w - w) x)
 unfolding digitsOf
-lay-start d at w x =
+digits-start d at w x =
     let z : w - w ≡ 0 = omega arith in
     sym (put-none d (at + w)) ∙ ap (λ (m : ℕ). put d (at + w) (digitsOf m x)) (sym z)
 
-pub lay-all : (d : List ℕ) (at w x i : ℕ) (t : List ℕ) → t ≡ put d (at + i) (digitsOf (w - i) x) → i ≤ 0 → t ≡ put d at (digitsOf w x)
-lay-all d at w x i t e h =
+pub digits-all : (d : List ℕ) (at w x i : ℕ) (t : List ℕ) → t ≡ put d (at + i) (digitsOf (w - i) x) → i ≤ 0 → t ≡ put d at (digitsOf w x)
+digits-all d at w x i t e h =
     let a : at + i ≡ at = omega arith in
     let b : w - i ≡ w = omega arith in
     e ∙ ap₂ (λ (m n : ℕ). put d m (digitsOf n x)) a b

@@ -7,7 +7,7 @@ use lib.ListN.{length, getD}
 use Rattle.replay_text.specs.Digits.{zeroChar, widthOf, decimalOf, digitsRead}
 use Rattle.replay_text.specs.Text.{frameLine, refusedLine, headerLine, cutLine, longestLine}
 
--- ---- the digits of a number of 64 bits spell it, and none stands in front without need
+-- ---- the digits of a number of 64 bits spell it, and none stands before it without need
 abbrev pub DigitsReadBack : Type 0
 DigitsReadBack = (x : ℕ) → x < 2 ^ 64 → digitsRead (widthOf x) (decimalOf x) ≡ x
 

@@ -6,7 +6,7 @@ use lib.ListN.{length}
 use lib.Dec.{leb}
 use Rattle.lists.specs.Choice.{if_then_else_}
 use Rattle.octets.specs.Runs.{put}
-use Rattle.switch.specs.Verdict.{Told}
+use Rattle.switch.specs.Verdict.{Report}
 use Rattle.replay_text.specs.Digits.{decimalOf}
 
 -- a space, the end of a line, and the dash that stands for no credit
@@ -19,20 +19,20 @@ lineEnd = 10
 abbrev pub dash : ℕ
 dash = 45
 
--- a number and the character behind it
+-- a number and the character after it
 unfoldable pub wordOf : ℕ → ℕ → List ℕ
 wordOf x mark = decimalOf x ++ (mark ∷ [])
 
--- the credit told, which codes 0, 8 and 9 have, and the line's end
+-- the credit reported, which codes 0, 8 and 9 have, and the line's end
 abbrev pub creditWord : Option ℕ → List ℕ
 creditWord none = dash ∷ lineEnd ∷ []
 creditWord (some c) = wordOf c lineEnd
 
--- the line of a frame: its number, its code, its credit; and by what its answer tells
+-- the line of a frame: its number, its code, its credit; and by what its answer reports
 unfoldable pub frameLine : ℕ → ℕ → Option ℕ → List ℕ
 frameLine number code credit = wordOf number space ++ wordOf code space ++ creditWord credit
 
-abbrev pub lineOf : ℕ → Told → List ℕ
+abbrev pub lineOf : ℕ → Report → List ℕ
 lineOf number w = frameLine number (w .code) (w .credit)
 
 -- `image `, then the code and the offset of a refused image
@@ -50,20 +50,20 @@ headerLine = 35 ∷ 32 ∷ 102 ∷ 114 ∷ 97 ∷ 109 ∷ 101 ∷ 32 ∷ 99 ∷ 
 abbrev pub cutLine : List ℕ
 cutLine = 99 ∷ 117 ∷ 116 ∷ 10 ∷ []
 
--- no line is longer: 20 digits, 3 digits and 10 digits, each with a character behind it
+-- no line is longer: 20 digits, 3 digits and 10 digits, each with a character after it
 abbrev pub longestLine : ℕ
 longestLine = 36
 
--- ---- a line laid at a place: the room, and the place behind it; both as they were where it has no room
-pub record Laid : Type 0 where
+-- ---- a line written at an offset: the room, and the offset after it; both as they were where it has no room
+pub record Appended : Type 0 where
   pub room : List ℕ
-  pub place : ℕ
+  pub next : ℕ
 
-abbrev pub laidOf : ℕ → List ℕ → Laid
-laidOf p d = record { room = d; place = p }
+abbrev pub appendedOf : ℕ → List ℕ → Appended
+appendedOf p d = record { room = d; next = p }
 
-unfoldable pub behind : List ℕ → ℕ → List ℕ → ℕ
-behind d at xs = if leb (at + length xs) (length d) then at + length xs else at
+unfoldable pub nextOffset : List ℕ → ℕ → List ℕ → ℕ
+nextOffset d at xs = if leb (at + length xs) (length d) then at + length xs else at
 
-abbrev pub laid : List ℕ → ℕ → List ℕ → Laid
-laid d at xs = record { room = put d at xs; place = behind d at xs }
+abbrev pub appended : List ℕ → ℕ → List ℕ → Appended
+appended d at xs = record { room = put d at xs; next = nextOffset d at xs }

@@ -25,7 +25,7 @@ pub(crate) fn width(x: u64) -> usize
     k + 1
 }
 
-// The last w digits of a number laid from a place on.
+// The last w digits of a number written from an offset on.
 pub(crate) fn put_digits(to: &mut [u8], at: usize, w: usize, x: u64)
     ensures { λ r. ⌜ now (to .exit) ≡ put (now (to .entry)) at (digitsOf w x) ⌝ }
 {

@@ -41,7 +41,7 @@ module _ (w : ℕ) (octets : List ℕ) (x used i : ℕ) (s : leading (otherNumbe
       let f : leading (otherNumber (tableOf w octets) x) used ≡ used = rw m at s in
       rw f (simp (le-ltb used used (omega arith)))
 
--- ---- what tells the answers apart
+-- ---- what reports the answers apart
 abbrev at-row : Found → ℕ
 at-row (At i) = i
 at-row Nowhere = 0

@@ -30,18 +30,18 @@ abbrev pub tableOf : ℕ → List ℕ → Rows
 tableOf w s = record { octets = s; first = 0; step = w }
 
 -- the offset of row i, and its w octets
-abbrev pub rowPlace : Rows → ℕ → ℕ
-rowPlace r i = r .first + r .step * i
+abbrev pub rowOffset : Rows → ℕ → ℕ
+rowOffset r i = r .first + r .step * i
 
 abbrev pub rowOctets : ℕ → Rows → ℕ → List ℕ
-rowOctets w r i = octetsAt w (r .octets) (rowPlace r i)
+rowOctets w r i = octetsAt w (r .octets) (rowOffset r i)
 
 -- octets of a row's number, and the number that row i begins with
 abbrev pub numberOctets : ℕ
 numberOctets = 2
 
 abbrev pub rowNumber : Rows → ℕ → ℕ
-rowNumber r i = numberAt numberOctets (r .octets) (rowPlace r i)
+rowNumber r i = numberAt numberOctets (r .octets) (rowOffset r i)
 
 -- rows of w octets in use in a run of so many octets: a count larger than the rows lent is read as those; a row in part is none
 abbrev pub inUse : ℕ → ℕ → ℕ → ℕ

@@ -22,7 +22,7 @@ pub enum Found {
 }
 
 // The offset of row i; a first row past the end is cut to the end, where all octets are 0 too.
-pub fn row_place(run: &[u8], rows: Spacing, i: u16) -> usize
+pub fn row_offset(run: &[u8], rows: Spacing, i: u16) -> usize
     ensures { λ r. ⌜ r ≡ min (rows .first) (length (now (run .entry))) + rows .step * i ⌝ }
 {
     octets::least(rows.first, run.len()) + rows.step as usize * i as usize

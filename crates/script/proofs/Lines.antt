@@ -45,7 +45,7 @@ numbers-more s n l m e f = f ∙ ap (λ k. readOctet k (getD s n 0)) e
 pub numbers-all : (s : List ℕ) (n : ℕ) (l : Line) → l ≡ numbersOf s n → n ≤ length s → length s ≤ n → l ≡ numbersOf s (length s)
 numbers-all s n l e h k = let q : n ≡ length s = omega arith in e ∙ ap (numbersOf s) q
 
--- ---- the end of a line: i octets from the start, with no line feed since the place
+-- ---- the end of a line: i octets from the start, with no line feed since the offset
 length-at : (s : List ℕ) (i : ℕ) → i < length s → (getD s i 0 ≡ 10 → ⊥) → lineLength (drop i s) ≡ suc (lineLength (drop (suc i) s))
 unfolding lineLength
 length-at [] i h d = absurd (omega arith)
@@ -80,7 +80,7 @@ module _ (s : List ℕ) (at : ℕ) where
     end-text : length s ≤ i → i ≡ lineEnd s at
     end-text h = let f = end-at s i h in omega arith
 
--- it lies behind the place, and in the text
+-- it lies after the offset, and in the text
 line-high : (s : List ℕ) → lineLength s ≤ length s
 unfolding lineLength
 line-high [] = omega arith

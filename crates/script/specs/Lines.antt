@@ -7,7 +7,7 @@ use lib.Dec.{leb, eqb}
 use Rattle.lists.specs.Choice.{if_then_else_}
 use Rattle.script.specs.declared.Line.{Line}
 
--- where the line ends that has the octet at a place: at the next line feed from there on, else at the end of the text
+-- where the line ends that has the octet at an offset: at the next line feed from there on, else at the end of the text
 unfoldable pub lineLength : List ℕ → ℕ
 lineLength [] = 0
 lineLength (x ∷ xs) = if eqb x 10 then 0 else suc (lineLength xs)

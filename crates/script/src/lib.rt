@@ -30,7 +30,7 @@ pub fn no_numbers() -> Line
     }
 }
 
-// Where the line ends that has the octet at a place; what follows for callers: behind the place, and in the text.
+// Where the line ends that has the octet at an offset; what follows for callers: after the offset, and in the text.
 pub fn line_end(text: &[u8], at: usize) -> usize
     ensures end { λ r. ⌜ r ≡ lineEnd (now (text .entry)) at ⌝ }
     ensures inside { λ r. ⌜ (min at (length (now (text .entry))) ≤ r) × (r ≤ length (now (text .entry))) ⌝ }

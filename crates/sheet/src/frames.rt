@@ -1,4 +1,4 @@
-// Frame reading at both sides of both sizes: octets, then code, link, sequence number and length of the payload; behind
+// Frame reading at both sides of both sizes: octets, then code, link, sequence number and length of the payload; after
 // a bar the constant field and the link number that the octets hold, whatever the code.
 use super::say;
 
@@ -28,8 +28,8 @@ fn show(octets: &[u8]) {
     say::end();
 }
 
-// A frame with constant field 3, 0, 0, 9, on link 258, with sequence number 77 behind so many octets. A remainder keeps
-// each place within the room; no case needs it.
+// A frame with constant field 3, 0, 0, 9, on link 258, with sequence number 77 after so many octets. A remainder keeps
+// each offset within the room; no case needs it.
 fn made(before: u16) -> [u8; 1519] {
     let mut octets = [0u8; 1519];
     octets[0] = 3;
@@ -40,7 +40,7 @@ fn made(before: u16) -> [u8; 1519] {
     octets
 }
 
-// Behind the sequence number come four octets more.
+// After the sequence number come four octets more.
 fn read(before: u16) {
     let octets = made(before);
     show(&octets[0..(before as usize + 5) % 1520]);

@@ -1,23 +1,23 @@
 // Reading and loading configuration images. Each is image P with so many accounts and links, cut to a size, with eight
-// octets changed from a place on: counts, size, place and octets, then code and offset, behind a bar the constant field
+// octets changed from an offset on: counts, size, offset and octets, then code and offset, after a bar the constant field
 // and the counts. Loading has the lengths of the runs too, and what they hold afterwards. A remainder keeps each part
 // within its run; no case needs it.
 use super::say;
-use image_read::Loaded;
+use image_read::ImageAnswer;
 
 // The head of image P.
 pub(crate) const HEAD: u64 = 0x01_0005_01_0300_0000;
 
 // So many fields of `step` octets from `at` on: eight octets whose number at 3 rises by one from field to field, and eight
-// behind them.
+// after them.
 fn put_fields(room: &mut [u8], at: u16, step: u8, n: u16, x: u64, y: u64) {
-    let mut place = at as usize;
+    let mut offset = at as usize;
     let mut i: u16 = 0;
     while i < n {
         let first = std::num::wrapping_add_u64(x, 0x0100_0000 * i as u64);
-        octets_write::put_u64(room, place, first);
-        octets_write::put_u64(room, place + 8, y);
-        place += step as usize;
+        octets_write::put_u64(room, offset, first);
+        octets_write::put_u64(room, offset + 8, y);
+        offset += step as usize;
         i += 1;
     }
 }
@@ -57,7 +57,7 @@ pub(crate) fn label(n: u8, m: u16, size: usize, at: usize, x: u64) {
     say::octets(b" :", &octets);
 }
 
-pub(crate) fn answer(a: Loaded) {
+pub(crate) fn answer(a: ImageAnswer) {
     say::arrow();
     say::two(a.code as u64, a.offset as u64);
     say::bar();
@@ -117,7 +117,7 @@ fn tags() {
     read(1, 1, 36, 33, 0x01_0000_00_0000_0000);
     read(1, 1, 36, 33, 0x02_0000_00_0000_0000);
     read(1, 1, 36, 33, 0x0A_0000_00_0000_0000);
-    // behind the end: another end
+    // after the end: another end
     read(1, 1, 39, 33, 0x09_0000_09_0000_0000);
 }
 
@@ -154,7 +154,7 @@ fn orders() {
     read(1, 1, 7, 0, 0x01_0005_02_0300_0000);
     read(1, 1, 16, 8, 0x02_0006_FFFF_00_01F4);
     read(1, 1, 32, 17, 0x03_000D_0007_20_0000);
-    // value of the account, and tag of the link, or nothing behind; value of the link, and tag of the end, or nothing
+    // value of the account, and tag of the link, or nothing after; value of the link, and tag of the end, or nothing
     read(1, 1, 36, 12, 0xC8_00_01F4_04_04_000D);
     read(1, 1, 17, 12, 0xC8_00_01F4_04_03_000D);
     read(1, 1, 36, 28, 0x40_00C8_0001_05_0000);

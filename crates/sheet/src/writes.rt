@@ -1,5 +1,5 @@
 // Writing configuration images from the rows of an image of two accounts and two links, with eight octets changed as for
-// reading: code and offset behind a bar, then the room. Finding a link's row.
+// reading: code and offset after a bar, then the room. Finding a link's row.
 use super::images;
 use super::say;
 use image_write::Written;

@@ -13,10 +13,10 @@ use Rattle.lists.proofs.Tests.{split}
 use Rattle.frame.specs.Frame.{lengthCode, linkNumber}
 use Rattle.terms.specs.declared.Terms.{Terms}
 use Rattle.terms.specs.Terms.{checkedCost}
-use Rattle.account.specs.Account.{termsOf, accountOf, valid, capacityOf}
+use Rattle.account.specs.Account.{termsOf, accountOf, accountSound, capacityOf}
 use Rattle.account.specs.Step.{Stepped, judgedAt, policed}
 use Rattle.account.specs.declared.Account.{Account}
-use Rattle.account.proofs.Methods.{none-invalid, some-valid, some-capacity}
+use Rattle.account.proofs.Methods.{none-unsound, some-sound, some-capacity}
 use Rattle.account.proofs.Step.{police-judged}
 use Rattle.tables.specs.Rows.{Config, accountOctets, termsAt, found}
 use Rattle.tables.specs.Rules.{linkSound}
@@ -25,28 +25,28 @@ use Rattle.tables.specs.declared.Link.{Link}
 use Rattle.tables.proofs.Rows.{terms-within}
 use Rattle.tables.proofs.Rules.{account-past}
 use Rattle.filter.specs.declared.Route.{Route}
-use Rattle.filter.specs.declared.Route.the-variants.{Stopped, Over}
-use Rattle.switch.specs.Verdict.{Told, withMask}
+use Rattle.filter.specs.declared.Route.the-variants.{Stopped, OnLink}
+use Rattle.switch.specs.Verdict.{Report, withMask}
 use Rattle.filter.specs.Filter.{frameCode, portCode, routeTo, routed}
-use Rattle.switch.specs.Call.{State, stateOf, Call, After, inUse, accountsInUse, accountHeld, Decided, kept, stepOn, decided, stored, refusedWith, settled, called}
+use Rattle.switch.specs.Call.{State, stateOf, Call, After, inUseBy, accountsInUse, accountHeld, Decided, kept, stepOn, decided, stored, refusedWith, settled, called}
 use Rattle.filter.proofs.Filter.{frame-zero, route-stopped, route-row}
 
-pub in-use-by : (n a c t q r u : ℕ) → q ≡ min c t → r ≡ min (a / accountOctets) q → u ≡ min n r → u ≡ inUse n a c t
-unfolding inUse
+pub in-use-by : (n a c t q r u : ℕ) → q ≡ min c t → r ≡ min (a / accountOctets) q → u ≡ min n r → u ≡ inUseBy n a c t
+unfolding inUseBy
 in-use-by n a c t q r u e f g = simp (g, f, e)
 
 -- an account in use is below both runs' lengths, and its row is there
-module _ (n a c t u i : ℕ) (e : u ≡ inUse n a c t) (h : i < u) where
+module _ (n a c t u i : ℕ) (e : u ≡ inUseBy n a c t) (h : i < u) where
   pub used-credit : i < c
-  unfolding inUse
+  unfolding inUseBy
   used-credit = omega arith
 
   pub used-last : i < t
-  unfolding inUse
+  unfolding inUseBy
   used-last = omega arith
 
   pub used-row : accountOctets * i + accountOctets ≤ a
-  unfolding inUse
+  unfolding inUseBy
   used-row =
       let d : accountOctets * (a / accountOctets) ≤ a = rw (mul-comm accountOctets (a / accountOctets)) (div-mul-le-self a accountOctets) in
       omega arith
@@ -77,29 +77,29 @@ module _ (l : Link) (used : ℕ) (a : Account) (n port t : ℕ) (r : Bool) (e : 
   module _ (h : not r ≡ false) (c : ℕ) (f : c ≡ capacityOf a) where
     pub decided-account : c ≡ 0 → (d : Decided) → d ≡ kept 10 a → d ≡ decided l used a n port t
     unfolding decided
-    decided-account z d q = q ∙ simp (← e, not-false r h, none-invalid a c f z)
+    decided-account z d q = q ∙ simp (← e, not-false r h, none-unsound a c f z)
 
     module _ (z : c ≡ 0 → ⊥) (x : ℕ) (p : x ≡ portCode l n port) where
       pub decided-port : (x ≡ 0 → ⊥) → (d : Decided) → d ≡ kept x a → d ≡ decided l used a n port t
       unfolding decided
-      decided-port m d q = q ∙ simp (← e, not-false r h, some-valid a c f z, p, ne-eqb (portCode l n port) 0 (rw p at m))
+      decided-port m d q = q ∙ simp (← e, not-false r h, some-sound a c f z, p, ne-eqb (portCode l n port) 0 (rw p at m))
 
       -- the cost y in hand, and what is judged by it
       pub decided-step : x ≡ 0 → lengthCode n ≡ 0 → (y : ℕ) → y ≡ checkedCost (termsOf a) n → (s : Stepped) → s ≡ judgedAt a c y t
-          → (w : Told) → w ≡ withMask (l .mask) (s .says)
+          → (w : Report) → w ≡ withMask (l .mask) (s .says)
           → _≡_ {A = Decided} (record { says = w; credit = s .account .credit; last = s .account .last }) (decided l used a n port t)
       unfolding decided
       decided-step m k y g s u w v =
-          let q : s ≡ policed a n t = u ∙ police-judged a n t k (some-valid a c f z) c y (some-capacity a c f z) g in
-          simp (v, q, ← e, not-false r h, some-valid a c f z, eq-eqb (portCode l n port) 0 (sym p ∙ m))
+          let q : s ≡ policed a n t = u ∙ police-judged a n t k (some-sound a c f z) c y (some-capacity a c f z) g in
+          simp (v, q, ← e, not-false r h, some-sound a c f z, eq-eqb (portCode l n port) 0 (sym p ∙ m))
 
 -- of an unsound link or an invalid account
-pub decided-unsound : (l : Link) (used : ℕ) (a : Account) (n port t : ℕ) → (linkSound l used (a .terms .smax) && valid a) ≡ false → decided l used a n port t ≡ kept 10 a
+pub decided-unsound : (l : Link) (used : ℕ) (a : Account) (n port t : ℕ) → (linkSound l used (a .terms .smax) && accountSound a) ≡ false → decided l used a n port t ≡ kept 10 a
 unfolding decided
 decided-unsound l used a n port t e = simp e
 
--- of a sound link and a valid account
-module _ (l : Link) (used : ℕ) (a : Account) (n port t : ℕ) (e : linkSound l used (a .terms .smax) ≡ true) (v : valid a ≡ true) where
+-- of a sound link and a sound account
+module _ (l : Link) (used : ℕ) (a : Account) (n port t : ℕ) (e : linkSound l used (a .terms .smax) ≡ true) (v : accountSound a ≡ true) where
   pub decided-refused : (portCode l n port ≡ 0 → ⊥) → decided l used a n port t ≡ kept (portCode l n port) a
   unfolding decided
   decided-refused h = simp (e, v, ne-eqb _ _ h)
@@ -123,12 +123,12 @@ module _ (g : Config) (s : State) (f : Call) where
 
 -- a frame that has a link has a frame's size
 pub link-sized : (f : List ℕ) (constant : ℕ) (links : List ℕ) (count : ℕ) (r : Route) → r ≡ routed f constant links count
-    → (l : Link) → r ≡ Over l → lengthCode (length f) ≡ 0
+    → (l : Link) → r ≡ OnLink l → lengthCode (length f) ≡ 0
 link-sized f constant links count r q l h =
     split (eqb (frameCode constant f) 0)
     (λ z. frame-zero constant f (eqb-true _ _ z))
     (λ z.
-    let k : Stopped (frameCode constant f) ≡ Over l = route-stopped f constant links count _ refl (eqb-false _ _ z) ∙ sym q ∙ h in
+    let k : Stopped (frameCode constant f) ≡ OnLink l = route-stopped f constant links count _ refl (eqb-false _ _ z) ∙ sym q ∙ h in
     let y : _≡_ {A = ℕ} 0 1 = cc in absurd (omega arith))
 
 -- ---- the call, by its route
@@ -140,7 +140,7 @@ module _ (g : Config) (s : State) (f : Call) (r : Route) (q : r ≡ routed (f .o
   pub call-stopped : (n : ℕ) → r ≡ Stopped n → refusedWith n s ≡ called g s f
   call-stopped n h = ap (settled g s f) (sym h) ∙ by-route
 
-  module _ (l : Link) (h : r ≡ Over l) (used : ℕ) (e : used ≡ accountsInUse g s) where
+  module _ (l : Link) (h : r ≡ OnLink l) (used : ℕ) (e : used ≡ accountsInUse g s) where
     pub call-unused : used ≤ l .account → refusedWith 10 s ≡ called g s f
     unfolding decided
     call-unused k =

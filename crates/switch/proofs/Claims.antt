@@ -14,7 +14,7 @@ use Rattle.lists.proofs.Tests.{split, both, neither}
 use Rattle.frame.specs.Frame.{lengthCode, constantField, linkNumber}
 use Rattle.frame.proofs.Frame.{by-length}
 use Rattle.terms.specs.Terms.{capacity, cost}
-use Rattle.account.specs.Account.{termsOf, holding, valid, creditAt}
+use Rattle.account.specs.Account.{termsOf, holding, accountSound, creditAt}
 use Rattle.account.specs.Step.{stepped, policed}
 use Rattle.account.specs.declared.Account.{Account}
 use Rattle.account.specs.declared.Outcome.the-variants as outcome
@@ -31,16 +31,16 @@ use Rattle.tables.proofs.Claims.{links-same}
 use Rattle.tables.proofs.Rules.{account-past, sound-port, sound-sizes}
 use Rattle.switch.specs.declared.Verdict.{Verdict}
 use Rattle.switch.specs.declared.Verdict.the-variants.{Forwarded, Short, Late, Refused}
-use Rattle.switch.specs.Verdict.{Told, tells, told}
+use Rattle.switch.specs.Verdict.{Report, report, reported}
 use Rattle.filter.specs.Filter.{frameCode, portCode}
-use Rattle.switch.specs.Call.{State, Call, After, accountsInUse, accountHeld, Decided, kept, stepOn, decided, stored, refusedWith, onLink, called}
+use Rattle.switch.specs.Call.{State, Call, After, accountsInUse, accountHeld, Decided, kept, stepOn, decided, stored, refusedWith, byLink, called}
 use Rattle.switch.specs.Claims.{VerdictsApart, CallAnswers, RefusedCallKeeps, LengthAlone, Line, line, firstFit, linkLines, rowLines, codeTable, CodesInOrder}
 use Rattle.switch.specs.Claims.{Effects, RowEffects, CallEffects, StoredBelowCapacity, PortsBeyond, SameInUse, RowsBeyondUnread}
 use Rattle.filter.proofs.Filter.{frame-length, frame-constant, frame-passes, frame-code-high, frame-zero, port-other, port-small, port-large, port-passes, port-code-high, passed-largest}
 use Rattle.switch.proofs.Call.{held-again, decided-unsound, decided-refused, decided-policed, onRow, call-refused, call-row}
 
--- ---- a verdict, from what it tells
-heard : Told → Verdict
+-- ---- a verdict, from what it reports
+heard : Report → Verdict
 heard w = from (w .mask) (w .credit)
   where
     from : Option ℕ → Option ℕ → Verdict
@@ -49,36 +49,36 @@ heard w = from (w .mask) (w .credit)
     from none (some c) = cond (eqb (w .code) 9) (Short c) (Late c)
     from none none = Refused (w .code)
 
-heard-told : (v : Verdict) → heard (told v) ≡ v
+heard-reported : (v : Verdict) → heard (reported v) ≡ v
 unfolding heard
-heard-told (Forwarded m c) = refl
-heard-told (Short c) = refl
-heard-told (Late c) = refl
-heard-told (Refused n) = refl
+heard-reported (Forwarded m c) = refl
+heard-reported (Short c) = refl
+heard-reported (Late c) = refl
+heard-reported (Refused n) = refl
 
 pub verdicts-apart : VerdictsApart
-verdicts-apart v w e = sym (heard-told v) ∙ ap heard e ∙ heard-told w
+verdicts-apart v w e = sym (heard-reported v) ∙ ap heard e ∙ heard-reported w
 
 -- ---- by cases of what is decided for a link and its account, the frame having the size of a frame
 module _ (l : Link) (used : ℕ) (a : Account) (n port t : ℕ) (z : lengthCode n ≡ 0) where
-  refused-port : (linkSound l used (a .terms .smax) && valid a) ≡ true → (portCode l n port ≡ 0 → ⊥) → decided l used a n port t ≡ kept (portCode l n port) a
+  refused-port : (linkSound l used (a .terms .smax) && accountSound a) ≡ true → (portCode l n port ≡ 0 → ⊥) → decided l used a n port t ≡ kept (portCode l n port) a
   refused-port e h =
-      let b = both (linkSound l used (a .terms .smax)) (valid a) e in decided-refused l used a n port t (b .0) (b .1) h
+      let b = both (linkSound l used (a .terms .smax)) (accountSound a) e in decided-refused l used a n port t (b .0) (b .1) h
 
-  on-step : (linkSound l used (a .terms .smax) && valid a) ≡ true → portCode l n port ≡ 0 → decided l used a n port t ≡ stepOn l (policed a n t)
-  on-step e h = let b = both (linkSound l used (a .terms .smax)) (valid a) e in decided-policed l used a n port t (b .0) (b .1) h
+  on-step : (linkSound l used (a .terms .smax) && accountSound a) ≡ true → portCode l n port ≡ 0 → decided l used a n port t ≡ stepOn l (policed a n t)
+  on-step e h = let b = both (linkSound l used (a .terms .smax)) (accountSound a) e in decided-policed l used a n port t (b .0) (b .1) h
 
   pub by-decided : (P : Decided → Type 0)
-      → ((linkSound l used (a .terms .smax) && valid a) ≡ false → P (kept 10 a))
-      → ((linkSound l used (a .terms .smax) && valid a) ≡ true → (portCode l n port ≡ 0 → ⊥) → P (kept (portCode l n port) a))
-      → ((linkSound l used (a .terms .smax) && valid a) ≡ true → portCode l n port ≡ 0 → t < a .last → P (stepOn l (stepped (outcome.Late (a .credit)) a)))
-      → ((linkSound l used (a .terms .smax) && valid a) ≡ true → portCode l n port ≡ 0 → a .last ≤ t → creditAt a t < cost (termsOf a) n
+      → ((linkSound l used (a .terms .smax) && accountSound a) ≡ false → P (kept 10 a))
+      → ((linkSound l used (a .terms .smax) && accountSound a) ≡ true → (portCode l n port ≡ 0 → ⊥) → P (kept (portCode l n port) a))
+      → ((linkSound l used (a .terms .smax) && accountSound a) ≡ true → portCode l n port ≡ 0 → t < a .last → P (stepOn l (stepped (outcome.Late (a .credit)) a)))
+      → ((linkSound l used (a .terms .smax) && accountSound a) ≡ true → portCode l n port ≡ 0 → a .last ≤ t → creditAt a t < cost (termsOf a) n
       → P (stepOn l (stepped (outcome.Short (creditAt a t)) (holding a (creditAt a t) t))))
-      → ((linkSound l used (a .terms .smax) && valid a) ≡ true → portCode l n port ≡ 0 → a .last ≤ t → cost (termsOf a) n ≤ creditAt a t
+      → ((linkSound l used (a .terms .smax) && accountSound a) ≡ true → portCode l n port ≡ 0 → a .last ≤ t → cost (termsOf a) n ≤ creditAt a t
       → P (stepOn l (stepped (outcome.Forwarded (creditAt a t - cost (termsOf a) n)) (holding a (creditAt a t - cost (termsOf a) n) t))))
       → P (decided l used a n port t)
   by-decided P f g h i j =
-      split (linkSound l used (a .terms .smax) && valid a)
+      split (linkSound l used (a .terms .smax) && accountSound a)
       (λ e.
       split (eqb (portCode l n port) 0)
       (λ m.
@@ -86,7 +86,7 @@ module _ (l : Link) (used : ℕ) (a : Account) (n port t : ℕ) (z : lengthCode 
       subst P (sym (on-step e k))
       (by-step a n t (λ q. P (stepOn l q))
       (λ d. absurd (d z))
-      (λ _ v. absurd (and-not (linkSound l used (a .terms .smax)) (valid a) e v))
+      (λ _ v. absurd (and-not (linkSound l used (a .terms .smax)) (accountSound a) e v))
       (λ _ _. h e k)
       (λ _ _. i e k)
       (λ _ _. j e k)))
@@ -110,7 +110,7 @@ module _ (g : Config) (s : State) (f : Call) where
   by-call : (P : Found → After → Type 0)
       → ((frame-code ≡ 0 → ⊥) → P row (refusedWith frame-code s))
       → (frame-code ≡ 0 → P Nowhere (refusedWith 4 s))
-      → (frame-code ≡ 0 → (j : ℕ) → P (At j) (onLink g s f (linkIn (linkTable (g .links)) j)))
+      → (frame-code ≡ 0 → (j : ℕ) → P (At j) (byLink g s f (linkIn (linkTable (g .links)) j)))
       → P row (called g s f)
   by-call P stopped unknown over =
       split (eqb frame-code 0)
@@ -154,7 +154,7 @@ none-left : 0 ≡ firstFit []
 unfolding firstFit
 none-left = refl
 
--- the lines of the port and the sizes, with others behind them
+-- the lines of the port and the sizes, with others after them
 module _ (l : Link) (n port : ℕ) (rest : List Line) where
   abbrev port-lines : List Line
   port-lines = line 5 (not (eqb port (l .port))) ∷ line 6 (ltb n (l .smallest)) ∷ line 7 (ltb (l .largest) n) ∷ rest
@@ -218,18 +218,18 @@ module _ (g : Config) (s : State) (f : Call) where
 pub codes-in-order : CodesInOrder
 codes-in-order g s f = in-order g s f
 
--- ---- what a call tells and leaves
+-- ---- what a call reports and leaves
 module _ (s : State) (f : Call) (l : Link) (a : Account) where
   -- a refusal with a code of its own that leaves the state
-  refused-effects : (c : ℕ) (r : After) → r .says ≡ tells c none none → r .state ≡ s → (c ≡ 0 → ⊥) → (c ≡ 8 → ⊥) → (c ≡ 9 → ⊥) → Effects s f l a r
+  refused-effects : (c : ℕ) (r : After) → r .says ≡ report c none none → r .state ≡ s → (c ≡ 0 → ⊥) → (c ≡ 8 → ⊥) → (c ≡ 9 → ⊥) → Effects s f l a r
   refused-effects c r w e p q u =
-      let k : r .says .code ≡ c = ap (λ (x : Told). x .code) w in
+      let k : r .says .code ≡ c = ap (λ (x : Report). x .code) w in
       record {
         forwarded = λ z. absurd (p (sym k ∙ z));
         short = λ z. absurd (u (sym k ∙ z));
         late = λ z. absurd (q (sym k ∙ z));
         kept = λ _ _. e;
-        bare = λ _ _ _. w ∙ ap (λ (x : ℕ). tells x none none) (sym k);
+        bare = λ _ _ _. w ∙ ap (λ (x : ℕ). report x none none) (sym k);
       }
 
 module _ (g : Config) (s : State) (f : Call) where
@@ -239,7 +239,7 @@ module _ (g : Config) (s : State) (f : Call) where
       refused-effects s f (linkIn (linkTable (g .links)) j) (accountHeld (g .accounts) s (linkIn (linkTable (g .links)) j .account)) c (refusedWith c s) refl refl z
       (λ e. omega arith) (λ e. omega arith)
 
-  link-effects : (l : Link) → lengthCode (length (f .octets)) ≡ 0 → Effects s f l (accountHeld (g .accounts) s (l .account)) (onLink g s f l)
+  link-effects : (l : Link) → lengthCode (length (f .octets)) ≡ 0 → Effects s f l (accountHeld (g .accounts) s (l .account)) (byLink g s f l)
   link-effects l z =
       let a : Account = accountHeld (g .accounts) s (l .account) in
       let same = held-again (g .accounts) s (l .account) in
@@ -291,9 +291,9 @@ Below a d = (d .says .code ≡ 0) ⊎ (d .says .code ≡ 9) → d .credit < capa
 
 pub stored-below-capacity : StoredBelowCapacity
 stored-below-capacity l used a n port t =
-    split (linkSound l used (a .terms .smax) && valid a)
+    split (linkSound l used (a .terms .smax) && accountSound a)
     (λ e.
-    let b = both (linkSound l used (a .terms .smax)) (valid a) e in
+    let b = both (linkSound l used (a .terms .smax)) (accountSound a) e in
     split (eqb (portCode l n port) 0)
     (λ m.
     let k = eqb-true _ _ m in
@@ -318,8 +318,8 @@ ports-beyond g s f h =
     (λ z j.
     let l : Link = linkIn (linkTable (g .links)) j in
     let a : Account = accountHeld (g .accounts) s (l .account) in
-    let five : ((linkSound l (accountsInUse g s) (a .terms .smax) && valid a) ≡ true → portCode l (length (f .octets)) (f .port) ≡ 5) =
-    λ e. other-port l (accountsInUse g s) (a .terms .smax) (length (f .octets)) (f .port) (both (linkSound l (accountsInUse g s) (a .terms .smax)) (valid a) e .0) h in
+    let five : ((linkSound l (accountsInUse g s) (a .terms .smax) && accountSound a) ≡ true → portCode l (length (f .octets)) (f .port) ≡ 5) =
+    λ e. other-port l (accountsInUse g s) (a .terms .smax) (length (f .octets)) (f .port) (both (linkSound l (accountsInUse g s) (a .terms .smax)) (accountSound a) e .0) h in
     by-decided l (accountsInUse g s) a (length (f .octets)) (f .port) (f .time) (frame-zero (g .constant) (f .octets) z)
     (λ d. (d .says .code ≡ 10) ⊎ ((1 ≤ d .says .code) × (d .says .code ≤ 5)))
     (λ _. inl refl)
@@ -345,7 +345,7 @@ module _ (g : Config) (s : State) (g′ : Config) (s′ : State) (e : SameInUse 
   abbrev number : ℕ
   number = linkNumber (f .octets)
 
-  link-same : (l l′ : Link) → l ≡ l′ → onLink g s f l .says ≡ onLink g′ s′ f l′ .says
+  link-same : (l l′ : Link) → l ≡ l′ → byLink g s f l .says ≡ byLink g′ s′ f l′ .says
   link-same l l′ q =
       decided-same l (accountsInUse g s) _ _ (length (f .octets)) (f .port) (f .time) (e .held (l .account))
       ∙ (λ k. decided (q k) (e .accounts k) (accountHeld (g′ .accounts) s′ (q k .account)) (length (f .octets)) (f .port) (f .time) .says)

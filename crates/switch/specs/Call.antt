@@ -6,7 +6,7 @@ use mathlib.Core.List.{List}
 use lib.ListN.{length, getD, set}
 use lib.Dec.{eqb}
 use Rattle.lists.specs.Choice.{if_then_else_}
-use Rattle.account.specs.Account.{accountOf, valid}
+use Rattle.account.specs.Account.{accountOf, accountSound}
 use Rattle.account.specs.Step.{Stepped, policed}
 use Rattle.account.specs.declared.Account.{Account}
 use Rattle.tables.specs.Rows.{Config, accountOctets, accountTable, accountIn}
@@ -14,10 +14,10 @@ use Rattle.tables.specs.Rules.{linkSound}
 use Rattle.tables.specs.declared.Link.{Link}
 use Rattle.switch.specs.declared.Decision.{Decision}
 use Rattle.switch.specs.declared.Verdict.the-variants.{Refused}
-use Rattle.switch.specs.Verdict.{Told, told, withMask}
+use Rattle.switch.specs.Verdict.{Report, reported, withMask}
 use Rattle.filter.specs.Filter.{portCode, routed}
 use Rattle.filter.specs.declared.Route.{Route}
-use Rattle.filter.specs.declared.Route.the-variants.{Stopped, Over}
+use Rattle.filter.specs.declared.Route.the-variants.{Stopped, OnLink}
 
 -- what a call may change
 pub record State : Type 0 where
@@ -38,18 +38,18 @@ callOf f p t = record { octets = f; port = p; time = t }
 
 -- what it says, and what it leaves
 pub record After : Type 0 where
-  pub says : Told
+  pub says : Report
   pub state : State
 
-abbrev pub afterOf : Told → State → After
+abbrev pub afterOf : Report → State → After
 afterOf w s = record { says = w; state = s }
 
 -- accounts in use ("Accounts and links"): a count larger than the rows of the shortest run lent is read as those
-unfoldable pub inUse : ℕ → ℕ → ℕ → ℕ → ℕ
-inUse count accounts credits lasts = min count (min (accounts / accountOctets) (min credits lasts))
+unfoldable pub inUseBy : ℕ → ℕ → ℕ → ℕ → ℕ
+inUseBy count accounts credits lasts = min count (min (accounts / accountOctets) (min credits lasts))
 
 abbrev pub accountsInUse : Config → State → ℕ
-accountsInUse g s = inUse (g .accountCount) (length (g .accounts)) (length (s .credits)) (length (s .lasts))
+accountsInUse g s = inUseBy (g .accountCount) (length (g .accounts)) (length (s .credits)) (length (s .lasts))
 
 -- account a: its row, its credit and its last time
 unfoldable pub accountHeld : List ℕ → State → ℕ → Account
@@ -57,16 +57,16 @@ accountHeld accounts s a = accountOf (accountIn (accountTable accounts) a) (getD
 
 -- ---- for a link and its account: what is said, with the credit and the last time that the account then has
 pub record Decided : Type 0 where
-  pub says : Told
+  pub says : Report
   pub credit : ℕ
   pub last : ℕ
 
 abbrev pub decisionOf : Decision → Decided
-decisionOf d = record { says = told (d .verdict); credit = d .credit; last = d .last }
+decisionOf d = record { says = reported (d .verdict); credit = d .credit; last = d .last }
 
 -- a refusal keeps both; the policing step gives them anew
 abbrev pub kept : ℕ → Account → Decided
-kept code a = record { says = told (Refused code); credit = a .credit; last = a .last }
+kept code a = record { says = reported (Refused code); credit = a .credit; last = a .last }
 
 abbrev pub stepOn : Link → Stepped → Decided
 stepOn l q = record { says = withMask (l .mask) (q .says); credit = q .account .credit; last = q .account .last }
@@ -74,7 +74,7 @@ stepOn l q = record { says = withMask (l .mask) (q .says); credit = q .account .
 -- 10 where the link's row or the account breaks a rule or the credit is above the capacity; then 5, 6 and 7; then the step
 unfoldable pub decided : Link → ℕ → Account → ℕ → ℕ → ℕ → Decided
 decided l used a n port t =
-    if not (linkSound l used (a .terms .smax) && valid a) then kept 10 a
+    if not (linkSound l used (a .terms .smax) && accountSound a) then kept 10 a
     else if not (eqb (portCode l n port) 0) then kept (portCode l n port) a
     else stepOn l (policed a n t)
 
@@ -85,18 +85,18 @@ stored s a d = afterOf (d .says) (stateOf (set (s .credits) a (d .credit)) (set 
 -- ---- the call
 
 abbrev pub refusedWith : ℕ → State → After
-refusedWith code s = afterOf (told (Refused code)) s
+refusedWith code s = afterOf (reported (Refused code)) s
 
 -- on a link: its account decides, and what is decided is stored
-abbrev pub onLink : Config → State → Call → Link → After
-onLink g s f l =
+abbrev pub byLink : Config → State → Call → Link → After
+byLink g s f l =
     stored s (l .account)
     (decided l (accountsInUse g s) (accountHeld (g .accounts) s (l .account)) (length (f .octets)) (f .port) (f .time))
 
 -- by what the filter finds: its code, or the link
 abbrev pub settled : Config → State → Call → Route → After
 settled g s f (Stopped code) = refusedWith code s
-settled g s f (Over l) = onLink g s f l
+settled g s f (OnLink l) = byLink g s f l
 
 -- the filter, then the link's account
 unfoldable pub called : Config → State → Call → After

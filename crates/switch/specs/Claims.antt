@@ -12,7 +12,7 @@ use Rattle.lists.specs.Choice.{if_then_else_}
 use Rattle.frame.specs.Limits.{smallestFrame, largestFrame}
 use Rattle.frame.specs.Frame.{lengthCode, constantField, linkNumber}
 use Rattle.terms.specs.Terms.{capacity, cost}
-use Rattle.account.specs.Account.{termsOf, valid, creditAt}
+use Rattle.account.specs.Account.{termsOf, accountSound, creditAt}
 use Rattle.account.specs.declared.Account.{Account}
 use Rattle.tables.specs.Rows.{Config, linkTable, linkIn, linksInUse, found}
 use Rattle.tables.specs.Rules.{portCount, linkSound}
@@ -20,12 +20,12 @@ use Rattle.rows.specs.declared.Found.{Found}
 use Rattle.rows.specs.declared.Found.the-variants.{At, Nowhere}
 use Rattle.tables.specs.declared.Link.{Link}
 use Rattle.switch.specs.declared.Verdict.{Verdict}
-use Rattle.switch.specs.Verdict.{tells, told}
+use Rattle.switch.specs.Verdict.{report, reported}
 use Rattle.switch.specs.Call.{State, stateOf, Call, After, accountsInUse, accountHeld, decided, refusedWith, called}
 
--- two verdicts that tell the same are the same
+-- two verdicts that report the same are the same
 abbrev pub VerdictsApart : Type 0
-VerdictsApart = (v w : Verdict) → told v ≡ told w → v ≡ w
+VerdictsApart = (v w : Verdict) → reported v ≡ reported w → v ≡ w
 
 -- demand 1: a call's code is one of the table's, 0 to 10
 abbrev pub CallAnswers : Type 0
@@ -57,7 +57,7 @@ firstFit (l ∷ ls) = if l .fits then l .code else firstFit ls
 -- the lines of a link l and its account a
 abbrev pub linkLines : Config → State → Call → Link → Account → List Line
 linkLines g s f l a =
-    line 10 (not (linkSound l (accountsInUse g s) (a .terms .smax) && valid a))
+    line 10 (not (linkSound l (accountsInUse g s) (a .terms .smax) && accountSound a))
     ∷ line 5 (not (eqb (f .port) (l .port)))
     ∷ line 6 (ltb (length (f .octets)) (l .smallest))
     ∷ line 7 (ltb (l .largest) (length (f .octets)))
@@ -81,28 +81,28 @@ codeTable g s f =
 abbrev pub CodesInOrder : Type 0
 CodesInOrder = (g : Config) (s : State) (f : Call) → called g s f .says .code ≡ firstFit (codeTable g s f)
 
--- ---- what a call tells and leaves, on a link l with account a: demand 1's "a refusal changes nothing", and the verdict's own data
+-- ---- what a call reports and leaves, on a link l with account a: demand 1's "a refusal changes nothing", and the verdict's own data
 pub record Effects (s : State) (f : Call) (l : Link) (a : Account) (r : After) : Type 0 where
   -- 0: forwarded to the link's ports; the account, and no other, is topped up, at the frame's time, less the cost
   pub forwarded : r .says .code ≡ 0
-      → (r .says ≡ tells 0 (some (l .mask)) (some (creditAt a (f .time) - cost (termsOf a) (length (f .octets)))))
+      → (r .says ≡ report 0 (some (l .mask)) (some (creditAt a (f .time) - cost (termsOf a) (length (f .octets)))))
       × (r .state ≡ stateOf (set (s .credits) (l .account) (creditAt a (f .time) - cost (termsOf a) (length (f .octets)))) (set (s .lasts) (l .account) (f .time)))
       × (cost (termsOf a) (length (f .octets)) ≤ creditAt a (f .time))
   -- 9: the account, and no other, is topped up, at the frame's time
   pub short : r .says .code ≡ 9
-      → (r .says ≡ tells 9 none (some (creditAt a (f .time))))
+      → (r .says ≡ report 9 none (some (creditAt a (f .time))))
       × (r .state ≡ stateOf (set (s .credits) (l .account) (creditAt a (f .time))) (set (s .lasts) (l .account) (f .time)))
       × (creditAt a (f .time) < cost (termsOf a) (length (f .octets)))
-  -- 8: tells the credit held, of a time before the last
-  pub late : r .says .code ≡ 8 → (r .says ≡ tells 8 none (some (a .credit))) × (f .time < a .last)
+  -- 8: reports the credit held, of a time before the last
+  pub late : r .says .code ≡ 8 → (r .says ≡ report 8 none (some (a .credit))) × (f .time < a .last)
   -- any code but 0 and 9 changes nothing
   pub kept : (r .says .code ≡ 0 → ⊥) → (r .says .code ≡ 9 → ⊥) → r .state ≡ s
-  -- any code but 0, 8 and 9 tells only itself
-  pub bare : (r .says .code ≡ 0 → ⊥) → (r .says .code ≡ 8 → ⊥) → (r .says .code ≡ 9 → ⊥) → r .says ≡ tells (r .says .code) none none
+  -- any code but 0, 8 and 9 reports only itself
+  pub bare : (r .says .code ≡ 0 → ⊥) → (r .says .code ≡ 8 → ⊥) → (r .says .code ≡ 9 → ⊥) → r .says ≡ report (r .says .code) none none
 
 -- the link is that of the first row in use with the frame's number; where there is none the call answers 1, 2, 3 or 4
 abbrev pub RowEffects : Config → State → Call → Found → After → Type 0
-RowEffects g s f Nowhere r = (r .state ≡ s) × (r .says ≡ tells (r .says .code) none none) × ((r .says .code ≡ 0) → ⊥) × (r .says .code ≤ 4)
+RowEffects g s f Nowhere r = (r .state ≡ s) × (r .says ≡ report (r .says .code) none none) × ((r .says .code ≡ 0) → ⊥) × (r .says .code ≤ 4)
 RowEffects g s f (At j) r = Effects s f (linkIn (linkTable (g .links)) j) (accountHeld (g .accounts) s (linkIn (linkTable (g .links)) j .account)) r
 
 abbrev pub CallEffects : Type 0

@@ -1,31 +1,31 @@
--- What the answer of a frame call tells (document 01, "Codes, in order of checking": the verdict carries its own data).
+-- What the answer of a frame call reports (document 01, "Codes, in order of checking": the verdict carries its own data).
 use Prim.Native.Nat.{ℕ}
 use mathlib.Core.Option.{Option, none, some}
 use lib.Dec.{eqb}
 use Rattle.lists.specs.Choice.{if_then_else_}
-use Rattle.account.specs.Step.{Told as StepTold}
+use Rattle.account.specs.Step.{StepReport as StepTold}
 use Rattle.switch.specs.declared.Verdict.{Verdict}
 use Rattle.switch.specs.declared.Verdict.the-variants.{Forwarded, Short, Late, Refused}
 
 -- its number in the table of codes, and the mask and the credit that it carries, if any
-pub record Told : Type 0 where
+pub record Report : Type 0 where
   pub code : ℕ
   pub mask : Option ℕ
   pub credit : Option ℕ
 
-abbrev pub tells : ℕ → Option ℕ → Option ℕ → Told
-tells n m c = record { code = n; mask = m; credit = c }
+abbrev pub report : ℕ → Option ℕ → Option ℕ → Report
+report n m c = record { code = n; mask = m; credit = c }
 
-abbrev pub told : Verdict → Told
-told (Forwarded m c) = tells 0 (some m) (some c)
-told (Short c) = tells 9 none (some c)
-told (Late c) = tells 8 none (some c)
-told (Refused n) = tells n none none
+abbrev pub reported : Verdict → Report
+reported (Forwarded m c) = report 0 (some m) (some c)
+reported (Short c) = report 9 none (some c)
+reported (Late c) = report 8 none (some c)
+reported (Refused n) = report n none none
 
--- what a policing step tells, on a link with this mask: a forwarded frame gets the mask beside its credit
+-- what a policing step reports, on a link with this mask: a forwarded frame gets the mask beside its credit
 abbrev pub maskFor : ℕ → ℕ → Option ℕ → Option ℕ
 maskFor mask code none = none
 maskFor mask code (some c) = if eqb code 0 then some mask else none
 
-abbrev pub withMask : ℕ → StepTold → Told
-withMask mask w = tells (w .code) (maskFor mask (w .code) (w .credit)) (w .credit)
+abbrev pub withMask : ℕ → StepTold → Report
+withMask mask w = report (w .code) (maskFor mask (w .code) (w .credit)) (w .credit)

@@ -2,11 +2,11 @@
 ghost use mathlib.Core.Path.{_≡_};
 ghost use Prim.Native.Nat.{_+_, _*_, _≤_};
 ghost use lib.ListN.{length, getD};
-ghost use Rattle.account.specs.Step.{told as stepTold};
+ghost use Rattle.account.specs.Step.{stepReported as stepTold};
 ghost use Rattle.frame.specs.Frame.{lengthCode};
 ghost use Rattle.tables.specs.Rows.{accountOctets, configFor};
-ghost use Rattle.switch.specs.Verdict.{told, withMask};
-ghost use Rattle.switch.specs.Call.{inUse, accountHeld, decisionOf, kept, decided, stateOf, callOf, afterOf, called};
+ghost use Rattle.switch.specs.Verdict.{reported, withMask};
+ghost use Rattle.switch.specs.Call.{inUseBy, accountHeld, decisionOf, kept, decided, stateOf, callOf, afterOf, called};
 use account::Account;
 use account::Outcome;
 use account::UNSOUND;
@@ -38,7 +38,7 @@ struct Decision {
 
 // A policing step's answer as a verdict on a link with this mask.
 fn verdict_of(outcome: Outcome, mask: u32) -> Verdict
-    ensures { λ r. ⌜ told r ≡ withMask mask (stepTold outcome) ⌝ }
+    ensures { λ r. ⌜ reported r ≡ withMask mask (stepTold outcome) ⌝ }
 {
     match outcome {
         Outcome::Forwarded(credit) => Verdict::Forwarded { mask, credit },
@@ -49,7 +49,7 @@ fn verdict_of(outcome: Outcome, mask: u32) -> Verdict
 }
 
 // A refusal that leaves the account as it is.
-fn refused(code: u8, account: Account) -> Decision
+fn kept(code: u8, account: Account) -> Decision
     ensures { λ r. ⌜ decisionOf r ≡ kept code account ⌝ }
 {
     Decision {
@@ -66,15 +66,15 @@ fn decide(link: Link, used: usize, account: Account, octets: usize, ingress: Ing
     ensures { λ r. ⌜ decisionOf r ≡ decided link used account octets (ingress .port) (ingress .time) ⌝ }
 {
     if !link.sound(used, account.terms.smax) {
-        return refused(UNSOUND, account);
+        return kept(UNSOUND, account);
     }
     let capacity = account.capacity();
     if capacity == 0 {
-        return refused(UNSOUND, account);
+        return kept(UNSOUND, account);
     }
     let code = filter::port_code(link, octets, ingress.port);
     if code != 0 {
-        return refused(code, account);
+        return kept(code, account);
     }
     let step = account.judge(capacity, account.terms.cost(octets), ingress.time);
     let outcome = step.outcome;
@@ -86,8 +86,8 @@ fn decide(link: Link, used: usize, account: Account, octets: usize, ingress: Ing
 }
 
 // Accounts in use: the count, or the rows of the shortest run lent where that is less.
-fn in_use(count: usize, accounts: usize, credits: usize, lasts: usize) -> usize
-    ensures { λ r. ⌜ r ≡ inUse count accounts credits lasts ⌝ }
+fn accounts_in_use(count: usize, accounts: usize, credits: usize, lasts: usize) -> usize
+    ensures { λ r. ⌜ r ≡ inUseBy count accounts credits lasts ⌝ }
 {
     let rows = octets::least(
         accounts / tables::ACCOUNT_OCTETS,
@@ -134,13 +134,13 @@ pub fn frame_call(
     lasts: &mut [u64],
     links: &[u8],
 ) -> Verdict
-    ensures { λ r. ⌜ afterOf (told r) (stateOf (now (credits .exit)) (now (lasts .exit)))
+    ensures { λ r. ⌜ afterOf (reported r) (stateOf (now (credits .exit)) (now (lasts .exit)))
         ≡ called
         (configFor settings (now (accounts .entry)) (now (links .entry)))
         (stateOf (now (credits .entry)) (now (lasts .entry)))
         (callOf (now (frame .entry)) (ingress .port) (ingress .time)) ⌝ }
 {
-    let used = in_use(
+    let used = accounts_in_use(
         settings.accounts,
         accounts.len(),
         credits.len(),
@@ -148,7 +148,7 @@ pub fn frame_call(
     );
     match filter::find_link(frame, settings.constant, links, settings.links) {
         Route::Stopped(code) => Verdict::Refused(code),
-        Route::Over(link) => {
+        Route::OnLink(link) => {
             let a = link.account as usize;
             if used <= a {
                 return Verdict::Refused(UNSOUND);

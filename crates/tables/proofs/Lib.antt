@@ -1,4 +1,4 @@
 pub mod Claims
-pub mod Lookup
+pub mod Lookups
 pub mod Rows
 pub mod Rules

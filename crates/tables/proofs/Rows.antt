@@ -1,4 +1,4 @@
--- Laws of rows of accounts and links: the same octets at two places, a row read value by value. Assumes nothing.
+-- Laws of rows of accounts and links: the same octets at two offsets, a row read value by value. Assumes nothing.
 use Prim.Native.Nat.{ℕ, _+_, _≤_, _<_, min}
 use mathlib.Core.List.{List}
 use mathlib.Core.Path.{_≡_, ap, _∙_}
@@ -15,7 +15,7 @@ use Rattle.terms.specs.declared.Terms.{Terms}
 use Rattle.tables.specs.Rows.{accountOctets, linkOctets, termsAt, linkAt}
 use Rattle.tables.specs.declared.Link.{Link}
 
--- ---- the same octets at two places
+-- ---- the same octets at two offsets
 module _ (s t : List ℕ) (a b : ℕ) where
   -- a number inside a row of w octets
   inside : (w : ℕ) → ((k : ℕ) → k < w → getD s (a + k) 0 ≡ getD t (b + k) 0) → (v x : ℕ) → x + v ≤ w → numberAt v s (a + x) ≡ numberAt v t (b + x)
@@ -57,18 +57,18 @@ link-within s at n h =
     link-same (take n (drop at s)) s 0 at
     (λ k l. ap (λ (i : ℕ). getD (take n (drop at s)) i 0) (zero-add k) ∙ getD-within n at s k (omega arith))
 
--- ---- a row whose octets e were laid at the start of d
+-- ---- a row whose octets e were written at the start of d
 module _ (s : List ℕ) (at : ℕ) (d e : List ℕ) where
-  laid : (w : ℕ) → w ≤ length d → e ≡ put d 0 (octetsAt w s at) → (k : ℕ) → k < w → getD e (0 + k) 0 ≡ getD s (at + k) 0
-  laid w h q k l =
+  written : (w : ℕ) → w ≤ length d → e ≡ put d 0 (octetsAt w s at) → (k : ℕ) → k < w → getD e (0 + k) 0 ≡ getD s (at + k) 0
+  written w h q k l =
       let n = length-part w s at in
       ap (λ (r : List ℕ). getD r (0 + k) 0) q ∙ getD-put d 0 (octetsAt w s at) (omega arith) k (omega arith) ∙ getD-part w s at k l
 
-  pub terms-laid : accountOctets ≤ length d → e ≡ put d 0 (octetsAt accountOctets s at) → termsAt e 0 ≡ termsAt s at
-  terms-laid h q = terms-same e s 0 at (laid accountOctets h q)
+  pub terms-written : accountOctets ≤ length d → e ≡ put d 0 (octetsAt accountOctets s at) → termsAt e 0 ≡ termsAt s at
+  terms-written h q = terms-same e s 0 at (written accountOctets h q)
 
-  pub link-laid : linkOctets ≤ length d → e ≡ put d 0 (octetsAt linkOctets s at) → linkAt e 0 ≡ linkAt s at
-  link-laid h q = link-same e s 0 at (laid linkOctets h q)
+  pub link-written : linkOctets ≤ length d → e ≡ put d 0 (octetsAt linkOctets s at) → linkAt e 0 ≡ linkAt s at
+  link-written h q = link-same e s 0 at (written linkOctets h q)
 
 -- ---- the same rows of octets have the same values
 pub terms-part : (s t : List ℕ) (a b : ℕ) → octetsAt accountOctets s a ≡ octetsAt accountOctets t b → termsAt s a ≡ termsAt t b

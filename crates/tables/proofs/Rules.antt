@@ -8,7 +8,7 @@ use Rattle.lists.proofs.Tests.{split, both}
 use Rattle.frame.specs.Limits.{smallestFrame}
 use lib.ListN.{length}
 use Rattle.octets.specs.Numbers.{numberAt}
-use Rattle.terms.specs.Terms.{inLimits}
+use Rattle.terms.specs.Terms.{termsGood}
 use Rattle.terms.specs.declared.Terms.{Terms}
 use Rattle.rows.specs.Rows.{Rows}
 use Rattle.rows.proofs.Rows.{number-near}
@@ -39,9 +39,9 @@ module _ (smallest largest smax : ℕ) where
   size-low h = simp (lt-leb _ _ h)
 
   module _ (h : smallestFrame ≤ smallest) where
-    pub sizes-turned : largest < smallest → false ≡ sizesSound smallest largest smax
+    pub sizes-swapped : largest < smallest → false ≡ sizesSound smallest largest smax
     unfolding sizesSound
-    sizes-turned k = simp (le-leb _ _ h, lt-leb _ _ k)
+    sizes-swapped k = simp (le-leb _ _ h, lt-leb _ _ k)
 
     pub sizes-tested : smallest ≤ largest → leb largest smax ≡ sizesSound smallest largest smax
     unfolding sizesSound
@@ -105,11 +105,11 @@ link-good-same a b l m n j h e f =
     rw e (sound-same (linkIn m j) n _ _ (λ k. ap (λ (p : Terms). p .smax) (h (linkIn m j .account) k))) in
     ap₂ _&&_ (rises-same l m j e f) g
 
--- ---- rows read at their places: the octets from `at` on are those of the row
+-- ---- rows read at their offsets: the octets from `at` on are those of the row
 module _ (a : Rows) (i at : ℕ) (e : at ≡ min (a .first) (length (a .octets)) + a .step * i) where
-  pub account-row : (p : Terms) (r : Bool) → p ≡ termsAt (a .octets) at → r ≡ inLimits p → r ≡ accountGood a i
+  pub account-row : (p : Terms) (r : Bool) → p ≡ termsAt (a .octets) at → r ≡ termsGood p → r ≡ accountGood a i
   unfolding accountGood
-  account-row p r f g = g ∙ ap inLimits (f ∙ terms-near (a .octets) (a .first) (a .step * i) at e)
+  account-row p r f g = g ∙ ap termsGood (f ∙ terms-near (a .octets) (a .first) (a .step * i) at e)
 
   pub smax-row : (x : ℕ) → x ≡ numberAt 2 (a .octets) at → x ≡ accountIn a i .smax
   unfolding termsAt

@@ -37,7 +37,7 @@ abbrev pub linkWith : ℕ → ℕ → ℕ → ℕ → ℕ → Link
 linkWith port mask smallest largest account =
     record { number = 7; port = port; mask = mask; smallest = smallest; largest = largest; account = account }
 
--- port 32; no output port; the input port as output port; smallest below a frame's; sizes turned; largest above Smax; account 2
+-- port 32; no output port; the input port as output port; smallest below a frame's; sizes swapped; largest above Smax; account 2
 abbrev pub LinkRefused : Type 0
 LinkRefused =
     map (λ l. linkSound l 2 200)

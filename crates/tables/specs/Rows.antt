@@ -4,23 +4,23 @@ use Prim.Native.Nat.{ℕ, _+_}
 use mathlib.Core.List.{List}
 use lib.ListN.{length, getD}
 use Rattle.octets.specs.Numbers.{numberAt}
-use Rattle.rows.specs.Rows.{Rows, tableOf, rowPlace, inUse, foundIn}
+use Rattle.rows.specs.Rows.{Rows, tableOf, rowOffset, inUse, foundIn}
 use Rattle.rows.specs.declared.Found.{Found}
 use Rattle.rows.specs.declared.Found.the-variants.{At, Nowhere}
 use Rattle.terms.specs.declared.Terms.{Terms}
 use Rattle.tables.specs.declared.Link.{Link}
 use Rattle.tables.specs.declared.Settings.{Settings}
-use Rattle.tables.specs.declared.Sought.{Sought}
-use Rattle.tables.specs.declared.Sought.the-variants.{Present, Absent}
+use Rattle.tables.specs.declared.Lookup.{Lookup}
+use Rattle.tables.specs.declared.Lookup.the-variants.{Present, Absent}
 
--- the account whose octets start at a place: Smax (2), k (1), J (2), mode (1)
+-- the account whose octets start at an offset: Smax (2), k (1), J (2), mode (1)
 abbrev pub accountOctets : ℕ
 accountOctets = 6
 
 unfoldable pub termsAt : List ℕ → ℕ → Terms
 termsAt s at = record { smax = numberAt 2 s at; k = getD s (at + 2) 0; jitter = numberAt 2 s (at + 3); mode = getD s (at + 5) 0 }
 
--- the link whose octets start at a place: number (2), port (1), mask (4), smallest (2), largest (2), account (2)
+-- the link whose octets start at an offset: number (2), port (1), mask (4), smallest (2), largest (2), account (2)
 abbrev pub linkOctets : ℕ
 linkOctets = 13
 
@@ -37,10 +37,10 @@ linkAt s at =
 
 -- account i and link j of rows at equal distances: in a table they touch, in an image a field's tag and length stand between them
 abbrev pub accountIn : Rows → ℕ → Terms
-accountIn r i = termsAt (r .octets) (rowPlace r i)
+accountIn r i = termsAt (r .octets) (rowOffset r i)
 
 abbrev pub linkIn : Rows → ℕ → Link
-linkIn r j = linkAt (r .octets) (rowPlace r j)
+linkIn r j = linkAt (r .octets) (rowOffset r j)
 
 -- a table of accounts and one of links
 abbrev pub accountTable : List ℕ → Rows
@@ -58,9 +58,9 @@ abbrev pub found : List ℕ → ℕ → ℕ → Found
 found links count x = foundIn (linkTable links) (linksInUse links count) x
 
 -- the link of such a row, if there is one
-abbrev pub soughtIn : List ℕ → Found → Sought
-soughtIn links (At j) = Present (linkIn (linkTable links) j)
-soughtIn links Nowhere = Absent
+abbrev pub lookupIn : List ℕ → Found → Lookup
+lookupIn links (At j) = Present (linkIn (linkTable links) j)
+lookupIn links Nowhere = Absent
 
 -- the constant field, the tables and the counts that go with them: what an image is written from, and what a frame call is lent
 pub record Config : Type 0 where

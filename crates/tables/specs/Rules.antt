@@ -5,7 +5,7 @@ use mathlib.Core.Bool.{Bool, true, not, _&&_}
 use lib.Dec.{ltb, leb, eqb}
 use Rattle.lists.specs.Choice.{if_then_else_}
 use Rattle.frame.specs.Limits.{smallestFrame}
-use Rattle.terms.specs.Terms.{inLimits}
+use Rattle.terms.specs.Terms.{termsGood}
 use Rattle.rows.specs.Rows.{Rows}
 use Rattle.tables.specs.Rows.{accountIn, linkIn}
 use Rattle.tables.specs.declared.Link.{Link}
@@ -28,7 +28,7 @@ linkSound l n smax = ltb (l .account) n && portsSound (l .port) (l .mask) && siz
 
 -- the values of row i of the accounts
 unfoldable pub accountGood : Rows → ℕ → Bool
-accountGood a i = inLimits (accountIn a i)
+accountGood a i = termsGood (accountIn a i)
 
 -- row j of the links among n accounts: Smax is that of the row of its own account
 abbrev pub linkRowSound : Rows → Rows → ℕ → ℕ → Bool

@@ -5,7 +5,7 @@ ghost use Prim.Native.Nat.{_+_, _≤_, _<_};
 ghost use lib.ListN.{length, getD};
 ghost use Rattle.octets.specs.Numbers.{numberAt};
 ghost use Rattle.rows.specs.Rows.{rowsBy};
-ghost use Rattle.tables.specs.Rows.{accountOctets, termsAt, linkOctets, linkAt, accountIn, found, soughtIn};
+ghost use Rattle.tables.specs.Rows.{accountOctets, termsAt, linkOctets, linkAt, accountIn, found, lookupIn};
 ghost use Rattle.tables.specs.Rules.{portsSound, sizesSound, linkSound, accountGood, numberRises, linkGood};
 use rows::Found;
 use rows::Spacing;
@@ -38,12 +38,12 @@ pub struct Settings {
 }
 
 // The link of a number, if there is one.
-pub enum Sought {
+pub enum Lookup {
     Present(Link),
     Absent,
 }
 
-// One, two and four octets from a place on that are there, with no test for each: a part of known length is read.
+// One, two and four octets from an offset on that are there, with no test for each: a part of known length is read.
 fn octet_in(rows: &[u8], at: usize) -> u8
     requires { ⌜ at < length (now rows) ⌝ }
     ensures { λ r. ⌜ r ≡ getD (now (rows .entry)) at 0 ⌝ }
@@ -105,7 +105,7 @@ fn link_in(rows: &[u8], at: usize) -> Link
     }
 }
 
-// The link whose octets start at a place; octets past the end are 0.
+// The link whose octets start at an offset; octets past the end are 0.
 pub fn link_at(rows: &[u8], at: usize) -> Link
     ensures { λ r. ⌜ r ≡ linkAt (now (rows .entry)) at ⌝ }
 {
@@ -162,14 +162,14 @@ impl Link {
 pub fn account_good(run: &[u8], rows: Spacing, i: u16) -> bool
     ensures { λ r. ⌜ r ≡ accountGood (rowsBy (now (run .entry)) rows) i ⌝ }
 {
-    terms_at(run, rows::row_place(run, rows, i)).in_limits()
+    terms_at(run, rows::row_offset(run, rows, i)).are_good()
 }
 
 // Smax of row i of the accounts.
 fn smax_of(run: &[u8], rows: Spacing, i: u16) -> u16
     ensures { λ r. ⌜ r ≡ accountIn (rowsBy (now (run .entry)) rows) i .smax ⌝ }
 {
-    octets::u16_at(run, rows::row_place(run, rows, i))
+    octets::u16_at(run, rows::row_offset(run, rows, i))
 }
 
 // Whether the number in row j of the links is above the one before it.
@@ -179,8 +179,8 @@ fn number_rises(run: &[u8], rows: Spacing, j: u16) -> bool
     if j == 0 {
         return true;
     }
-    let before = octets::u16_at(run, rows::row_place(run, rows, j - 1));
-    before < octets::u16_at(run, rows::row_place(run, rows, j))
+    let before = octets::u16_at(run, rows::row_offset(run, rows, j - 1));
+    before < octets::u16_at(run, rows::row_offset(run, rows, j))
 }
 
 // Whether the values of row j of the links keep their rules among n accounts. Smax is that of the link's own account.
@@ -197,7 +197,7 @@ pub fn link_good(
     if !number_rises(links, link_rows, j) {
         return false;
     }
-    let l = link_at(links, rows::row_place(links, link_rows, j));
+    let l = link_at(links, rows::row_offset(links, link_rows, j));
     let smax = smax_of(accounts, account_rows, l.account);
     l.sound(n as usize, smax)
 }
@@ -215,12 +215,12 @@ pub fn find(links: &[u8], count: usize, number: u16) -> Found
 }
 
 // The link in the first of the rows in use that has the number. A row that is found is there whole.
-pub fn look_up(links: &[u8], count: usize, number: u16) -> Sought
-    ensures { λ r. ⌜ r ≡ soughtIn (now (links .entry)) (found (now (links .entry)) count number) ⌝ }
+pub fn look_up(links: &[u8], count: usize, number: u16) -> Lookup
+    ensures { λ r. ⌜ r ≡ lookupIn (now (links .entry)) (found (now (links .entry)) count number) ⌝ }
 {
     let found = find(links, count, number);
     match found {
-        Found::Nowhere => Sought::Absent,
-        Found::At(row) => Sought::Present(link_in(links, LINK_OCTETS * row)),
+        Found::Nowhere => Lookup::Absent,
+        Found::At(row) => Lookup::Present(link_in(links, LINK_OCTETS * row)),
     }
 }

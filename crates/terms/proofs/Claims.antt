@@ -6,9 +6,9 @@ use native.Mathlib.Omega.{arith}
 use lib.Dec.{lit≤}
 use borrow.Author.Tests.{eq-eqb, ne-eqb}
 use Rattle.lists.proofs.Tests.{split}
-use Rattle.terms.specs.Terms.{inLimits, bag, added, charge, rate, capacity, byOctets, charged, cost, checkedCapacity, checkedCost}
+use Rattle.terms.specs.Terms.{termsGood, bag, added, charge, rate, capacity, byOctets, charged, cost, checkedCapacity, checkedCost}
 use Rattle.terms.specs.Claims.{FormulasByMode, CapacityLargest, CostLargest, TermsLimits, CheckedMethods}
-use Rattle.terms.proofs.Limits.{limits, in-limits-by, added-none, capacity-with, capacity-high, cost-high}
+use Rattle.terms.proofs.Limits.{limits, are-good-by, added-none, capacity-with, capacity-high, cost-high}
 
 pub formulas-by-mode : FormulasByMode
 unfolding added charge rate capacity byOctets charged cost
@@ -17,7 +17,7 @@ formulas-by-mode s k j =
     ((add-zero s, plain s _, λ n. plain n _), (add-zero s, plain s _, λ n. plain s _), (refl, refl, λ n. refl), (refl, refl, λ n. refl))
 
 pub capacity-largest : CapacityLargest
-unfolding inLimits bag added charge rate capacity
+unfolding termsGood bag added charge rate capacity
 capacity-largest = (
   λ p ok. le-trans (capacity-high p (limits p ok)) (lit≤ tt),
   λ p ok h. le-trans (capacity-with p (limits p ok)) (rw (added-none (p .mode) (omega arith)) (lit≤ tt)),
@@ -32,7 +32,7 @@ cost-largest = (λ p n ok h. le-trans (cost-high p (limits p ok) n h) (lit≤ tt
 pub terms-limits : TermsLimits
 terms-limits p = (
   λ e. let l = limits p e in (l .smax-low, l .smax-high, l .k-high, l .jitter-high, l .mode-high),
-  λ h. in-limits-by p (record { smax-low = h .0; smax-high = h .1; k-high = h .2; jitter-high = h .3; mode-high = h .4 }),
+  λ h. are-good-by p (record { smax-low = h .0; smax-high = h .1; k-high = h .2; jitter-high = h .3; mode-high = h .4 }),
 )
 
 pub checked-methods : CheckedMethods
@@ -41,5 +41,5 @@ checked-methods p n = (
   λ e. simp e,
   λ e z. simp (e, eq-eqb _ _ z),
   λ e. (simp e, simp e),
-  λ h. split (inLimits p) (λ e. simp (e, ne-eqb _ _ h)) (λ e. simp e),
+  λ h. split (termsGood p) (λ e. simp (e, ne-eqb _ _ h)) (λ e. simp e),
 )

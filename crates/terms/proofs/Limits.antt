@@ -11,7 +11,7 @@ use borrow.Author.Tests.{leb-true, lt-leb, le-leb, eq-eqb, ne-eqb}
 use Rattle.lists.proofs.Tests.{split, both}
 use Rattle.frame.specs.Limits.{smallestFrame, largestFrame}
 use Rattle.terms.specs.declared.Terms.{Terms}
-use Rattle.terms.specs.Terms.{largestK, largestJitter, byteMode, lineByteMode, lineFrameMode, inLimits, shortestBag, bag}
+use Rattle.terms.specs.Terms.{largestK, largestJitter, byteMode, lineByteMode, lineFrameMode, termsGood, shortestBag, bag}
 use Rattle.terms.specs.Terms.{lineOctets, added, charge, rate, capacity, byOctets, charged, cost}
 
 -- ---- the limits, one by one
@@ -22,8 +22,8 @@ pub record Limits (p : Terms) : Type 0 where
   pub jitter-high : p .jitter ≤ largestJitter
   pub mode-high : p .mode ≤ lineFrameMode
 
-pub limits : (p : Terms) → inLimits p ≡ true → Limits p
-unfolding inLimits
+pub limits : (p : Terms) → termsGood p ≡ true → Limits p
+unfolding termsGood
 limits p e =
     let d = both _ (leb (p .mode) lineFrameMode) e in
     let f = both _ (leb (p .jitter) largestJitter) (d .0) in
@@ -39,32 +39,32 @@ limits p e =
 
 -- the test, as the code makes it
 module _ (p : Terms) where
-  pub smax-below : p .smax < smallestFrame → false ≡ inLimits p
-  unfolding inLimits
+  pub smax-below : p .smax < smallestFrame → false ≡ termsGood p
+  unfolding termsGood
   smax-below h = simp (lt-leb _ _ h)
 
   module _ (h1 : smallestFrame ≤ p .smax) where
-    pub smax-above : largestFrame < p .smax → false ≡ inLimits p
-    unfolding inLimits
+    pub smax-above : largestFrame < p .smax → false ≡ termsGood p
+    unfolding termsGood
     smax-above h = simp (le-leb _ _ h1, lt-leb _ _ h)
 
     module _ (h2 : p .smax ≤ largestFrame) where
-      pub k-above : largestK < p .k → false ≡ inLimits p
-      unfolding inLimits
+      pub k-above : largestK < p .k → false ≡ termsGood p
+      unfolding termsGood
       k-above h = simp (le-leb _ _ h1, le-leb _ _ h2, lt-leb _ _ h)
 
       module _ (h3 : p .k ≤ largestK) where
-        pub jitter-above : largestJitter < p .jitter → false ≡ inLimits p
-        unfolding inLimits
+        pub jitter-above : largestJitter < p .jitter → false ≡ termsGood p
+        unfolding termsGood
         jitter-above h = simp (le-leb _ _ h1, le-leb _ _ h2, le-leb _ _ h3, lt-leb _ _ h)
 
-        pub mode-tested : p .jitter ≤ largestJitter → leb (p .mode) lineFrameMode ≡ inLimits p
-        unfolding inLimits
+        pub mode-tested : p .jitter ≤ largestJitter → leb (p .mode) lineFrameMode ≡ termsGood p
+        unfolding termsGood
         mode-tested h = simp (le-leb _ _ h1, le-leb _ _ h2, le-leb _ _ h3, le-leb _ _ h)
 
 -- they are all that is tested
-pub in-limits-by : (p : Terms) → Limits p → inLimits p ≡ true
-in-limits-by p l =
+pub are-good-by : (p : Terms) → Limits p → termsGood p ≡ true
+are-good-by p l =
     sym (mode-tested p (l .smax-low) (l .smax-high) (l .k-high) (l .jitter-high)) ∙ le-leb _ _ (l .mode-high)
 
 -- ---- bounds, by formula from the limits

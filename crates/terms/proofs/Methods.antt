@@ -8,21 +8,21 @@ use borrow.Author.Tests.{eq-eqb, eqb-true, not-true, not-false}
 use Rattle.frame.specs.Limits.{largestFrame}
 use Rattle.frame.specs.Frame.{lengthCode}
 use Rattle.frame.proofs.Frame.{within}
-use Rattle.terms.specs.Terms.{inLimits, bag, rate, capacity, charged, cost, checkedCapacity, checkedCost}
+use Rattle.terms.specs.Terms.{termsGood, bag, rate, capacity, charged, cost, checkedCapacity, checkedCost}
 use Rattle.terms.specs.declared.Terms.{Terms}
 use Rattle.terms.proofs.Limits.{Limits, limits, window-high, capacity-high, cost-high}
 
 module _ (p : Terms) where
-  pub capacity-kept : inLimits p ≡ true → capacity p ≡ checkedCapacity p
+  pub capacity-kept : termsGood p ≡ true → capacity p ≡ checkedCapacity p
   unfolding checkedCapacity
   capacity-kept e = simp e
 
-  pub cost-kept : inLimits p ≡ true → (n : ℕ) → lengthCode n ≡ 0 → cost p n ≡ checkedCost p n
+  pub cost-kept : termsGood p ≡ true → (n : ℕ) → lengthCode n ≡ 0 → cost p n ≡ checkedCost p n
   unfolding checkedCost
   cost-kept e n z = simp (e, eq-eqb _ _ z)
 
 -- t is whether the values keep their limits, b the BAG, s whether a frame can have n octets
-module _ (p : Terms) (t : Bool) (e : t ≡ inLimits p) where
+module _ (p : Terms) (t : Bool) (e : t ≡ termsGood p) where
   pub none-full : not t ≡ true → 0 ≡ checkedCapacity p
   unfolding checkedCapacity
   none-full h = simp (← e, not-true t h)
@@ -32,7 +32,7 @@ module _ (p : Terms) (t : Bool) (e : t ≡ inLimits p) where
   none-charged h n = simp (← e, not-true t h)
 
   module _ (h : not t ≡ false) where
-    tested : inLimits p ≡ true
+    tested : termsGood p ≡ true
     tested = sym e ∙ not-false t h
 
     pub limits-tested : Limits p

@@ -6,7 +6,7 @@ use mathlib.Core.Logic.{_↔_}
 use mathlib.Core.Path.{_≡_}
 use mathlib.Core.List.{[], _∷_, map}
 use Rattle.frame.specs.Frame.{lengthCode}
-use Rattle.terms.specs.Terms.{termsWith, inLimits, bag, rate, capacity, cost, checkedCapacity, checkedCost}
+use Rattle.terms.specs.Terms.{termsWith, termsGood, bag, rate, capacity, cost, checkedCapacity, checkedCost}
 use Rattle.terms.specs.declared.Terms.{Terms}
 
 -- the formulas of a mode, given the octets that count as Smax and those that count for a frame of n
@@ -31,28 +31,28 @@ largestTerms mode = termsWith 1518 7 10000 mode
 
 abbrev pub CapacityLargest : Type 0
 CapacityLargest =
-    ((p : Terms) → inLimits p ≡ true → capacity p ≤ 212244000)
-    × ((p : Terms) → inLimits p ≡ true → p .mode ≤ 1 → capacity p ≤ 209484000)
-    × (map inLimits (map largestTerms (0 ∷ 1 ∷ 2 ∷ 3 ∷ [])) ≡ true ∷ true ∷ true ∷ true ∷ [])
+    ((p : Terms) → termsGood p ≡ true → capacity p ≤ 212244000)
+    × ((p : Terms) → termsGood p ≡ true → p .mode ≤ 1 → capacity p ≤ 209484000)
+    × (map termsGood (map largestTerms (0 ∷ 1 ∷ 2 ∷ 3 ∷ [])) ≡ true ∷ true ∷ true ∷ true ∷ [])
     × (map capacity (map largestTerms (0 ∷ 1 ∷ 2 ∷ 3 ∷ [])) ≡ 209484000 ∷ 209484000 ∷ 212244000 ∷ 212244000 ∷ [])
 
 -- the largest cost of a frame
 abbrev pub CostLargest : Type 0
 CostLargest =
-    ((p : Terms) (n : ℕ) → inLimits p ≡ true → n ≤ 1518 → cost p n ≤ 196864000)
+    ((p : Terms) (n : ℕ) → termsGood p ≡ true → n ≤ 1518 → cost p n ≤ 196864000)
     × (map (λ m. cost (largestTerms m) 1518) (0 ∷ 1 ∷ 2 ∷ 3 ∷ []) ≡ 194304000 ∷ 194304000 ∷ 196864000 ∷ 196864000 ∷ [])
 
 -- the limits exactly: each is one of its value alone, and Smax has the same in every mode
 abbrev pub TermsLimits : Type 0
 TermsLimits =
     (p : Terms)
-    → (inLimits p ≡ true) ↔ ((64 ≤ p .smax) × (p .smax ≤ 1518) × (p .k ≤ 7) × (p .jitter ≤ 10000) × (p .mode ≤ 3))
+    → (termsGood p ≡ true) ↔ ((64 ≤ p .smax) × (p .smax ≤ 1518) × (p .k ≤ 7) × (p .jitter ≤ 10000) × (p .mode ≤ 3))
 
 -- what the methods give: the formulas' values within limits and of a frame's size, else 0
 abbrev pub CheckedMethods : Type 0
 CheckedMethods =
     (p : Terms) (n : ℕ)
-    → (inLimits p ≡ true → checkedCapacity p ≡ capacity p)
-    × (inLimits p ≡ true → lengthCode n ≡ 0 → checkedCost p n ≡ cost p n)
-    × (inLimits p ≡ false → (checkedCapacity p ≡ 0) × (checkedCost p n ≡ 0))
+    → (termsGood p ≡ true → checkedCapacity p ≡ capacity p)
+    × (termsGood p ≡ true → lengthCode n ≡ 0 → checkedCost p n ≡ cost p n)
+    × (termsGood p ≡ false → (checkedCapacity p ≡ 0) × (checkedCost p n ≡ 0))
     × ((lengthCode n ≡ 0 → ⊥) → checkedCost p n ≡ 0)

@@ -33,8 +33,8 @@ abbrev pub lineFrameMode : ℕ
 lineFrameMode = 3
 
 -- the values keep their limits, Smax those of a frame
-unfoldable pub inLimits : Terms → Bool
-inLimits p =
+unfoldable pub termsGood : Terms → Bool
+termsGood p =
     leb smallestFrame (p .smax)
     && leb (p .smax) largestFrame
     && leb (p .k) largestK
@@ -83,8 +83,8 @@ cost p n = charged p n * bag (p .k)
 
 -- the capacity as the method gives it: 0 where the values break a limit
 unfoldable pub checkedCapacity : Terms → ℕ
-checkedCapacity p = if inLimits p then capacity p else 0
+checkedCapacity p = if termsGood p then capacity p else 0
 
 -- the cost as the method gives it: 0 where the values break a limit or no frame has n octets
 unfoldable pub checkedCost : Terms → ℕ → ℕ
-checkedCost p n = if inLimits p && eqb (lengthCode n) 0 then cost p n else 0
+checkedCost p n = if termsGood p && eqb (lengthCode n) 0 then cost p n else 0

@@ -2,7 +2,7 @@
 // counted in octets times the microseconds of the BAG, so no product is ever rounded.
 ghost use mathlib.Core.Path.{_≡_};
 ghost use Prim.Native.Nat.{_≤_};
-ghost use Rattle.terms.specs.Terms.{largestK, bag, inLimits, charge, rate, byOctets, charged, checkedCapacity, checkedCost};
+ghost use Rattle.terms.specs.Terms.{largestK, bag, termsGood, charge, rate, byOctets, charged, checkedCapacity, checkedCost};
 
 // The BAG of k 0, in microseconds.
 const SHORTEST_BAG: u32 = 1000;
@@ -61,8 +61,8 @@ fn by_octets(mode: u8) -> bool
 
 impl Terms {
     // Whether the values keep their limits.
-    pub fn in_limits(self) -> bool
-        ensures { λ r. ⌜ r ≡ inLimits self ⌝ }
+    pub fn are_good(self) -> bool
+        ensures { λ r. ⌜ r ≡ termsGood self ⌝ }
     {
         if (self.smax as usize) < frame::SMALLEST_FRAME {
             return false;
@@ -101,7 +101,7 @@ impl Terms {
     pub fn capacity(self) -> u32
         ensures { λ r. ⌜ r ≡ checkedCapacity self ⌝ }
     {
-        if !self.in_limits() {
+        if !self.are_good() {
             return 0;
         }
         let rate = self.rate();
@@ -112,7 +112,7 @@ impl Terms {
     pub fn cost(self, octets: usize) -> u32
         ensures { λ r. ⌜ r ≡ checkedCost self octets ⌝ }
     {
-        if !self.in_limits() {
+        if !self.are_good() {
             return 0;
         }
         if !frame::is_frame_size(octets) {

@@ -123,14 +123,14 @@ pub fn top_up(t: &Terms, credit: &mut u32, last: &mut u64, time: u64) {
 }
 
 pub fn police(t: &Terms, credit: &mut u32, last: &mut u64, octets: usize, time: u64) -> StepAnswer {
-    let mut told = 0;
+    let mut reported = 0;
     // SAFETY: exclusive references, and a place of its own.
     let code = unsafe {
         raw::ashthulgo_police(
-            t.smax, t.k, t.jitter, t.mode, credit, last, octets, time, &mut told,
+            t.smax, t.k, t.jitter, t.mode, credit, last, octets, time, &mut reported,
         )
     };
-    StepAnswer { code, credit: told }
+    StepAnswer { code, credit: reported }
 }
 
 #[inline]

@@ -35,7 +35,7 @@ extern "C" {
         last: *mut u64,
         octets: usize,
         time: u64,
-        told: *mut u32,
+        reported: *mut u32,
     ) -> u8;
     pub fn ashthulgo_frame_call(
         frame: *const u8,

@@ -1,5 +1,5 @@
 -- `find_link`: the frame alone, then the link of its number. Assumes nothing.
-use Rattle.filter.proofs.Filter.{route-stopped, route-unknown, route-over}
+use Rattle.filter.proofs.Filter.{route-stopped, route-unknown, route-link}
 use borrow.Author.Needs.{needs}
 use Rattle.filter.proofs.find_link.Statement.{statement}
 use Rattle.filter.proofs.find_link.Tie as tie
@@ -19,14 +19,14 @@ look-up-requires c κs = search needs
 enum-told : tie.Need-enum-told
 enum-told c = search needs
 
-enum-known-sought : tie.Need-enum-known-sought
-enum-known-sought c = search needs
+enum-known-lookup : tie.Need-enum-known-lookup
+enum-known-lookup c = search needs
 
 returns-2 : tie.Need-returns-2
 returns-2 c = search route-unknown
 
 returns-3 : tie.Need-returns-3
-returns-3 c = search route-over
+returns-3 c = search route-link
 
 pub find-link-spec : {M : Type 1} → statement M
 find-link-spec =
@@ -37,6 +37,6 @@ find-link-spec =
     link-number-requires
     look-up-requires
     enum-told
-    enum-known-sought
+    enum-known-lookup
     returns-2
     returns-3)

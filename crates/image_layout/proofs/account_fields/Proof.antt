@@ -7,14 +7,14 @@ use borrow.Author.Needs.{needs}
 use Rattle.image_layout.proofs.account_fields.Statement.{statement}
 use Rattle.image_layout.proofs.account_fields.Tie as tie
 
-data-place-requires : tie.Need-data-place-requires
-data-place-requires c κs = search needs
+data-offset-requires : tie.Need-data-offset-requires
+data-offset-requires c κs = search needs
 
 cast-t2 : tie.Need-cast-t2
 cast-t2 c = search needs
 
 returns : tie.Need-returns
-returns c = ap (λ (x : ℕ). spacing x accountSize) (c .data-place .ensures)
+returns c = ap (λ (x : ℕ). spacing x accountSize) (c .data-offset .ensures)
 
 pub account-fields-spec : {M : Type 1} → statement M
-account-fields-spec = tie.close (tie.spec data-place-requires cast-t2 returns)
+account-fields-spec = tie.close (tie.spec data-offset-requires cast-t2 returns)

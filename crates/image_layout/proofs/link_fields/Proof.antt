@@ -7,14 +7,14 @@ use borrow.Author.Needs.{needs}
 use Rattle.image_layout.proofs.link_fields.Statement.{statement}
 use Rattle.image_layout.proofs.link_fields.Tie as tie
 
-data-place-requires : tie.Need-data-place-requires
-data-place-requires c κs = search needs
+data-offset-requires : tie.Need-data-offset-requires
+data-offset-requires c κs = search needs
 
 cast-t3 : tie.Need-cast-t3
 cast-t3 c = search needs
 
 returns : tie.Need-returns
-returns c = ap (λ (x : ℕ). spacing x linkSize) (c .data-place .ensures)
+returns c = ap (λ (x : ℕ). spacing x linkSize) (c .data-offset .ensures)
 
 pub link-fields-spec : {M : Type 1} → statement M
-link-fields-spec = tie.close (tie.spec data-place-requires cast-t3 returns)
+link-fields-spec = tie.close (tie.spec data-offset-requires cast-t3 returns)

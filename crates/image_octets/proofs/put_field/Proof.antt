@@ -3,10 +3,10 @@ use Prim.Native.Nat.{_+_, _≤_}
 use native.Mathlib.Omega.{arith}
 use lib.ListN.{length}
 use Rattle.octets.proofs.Parts.{length-part}
-use Rattle.octets.proofs.Runs.{put-refused, length-laid}
+use Rattle.octets.proofs.Runs.{put-refused, length-written}
 use Rattle.octets.proofs.Tests.{has-room}
 use Rattle.fields.specs.Fields.{tagAndLength}
-use Rattle.image_octets.proofs.Laying.{length-sized, field-laid}
+use Rattle.image_octets.proofs.Written.{length-sized, field-written}
 use borrow.Author.Needs.{needs}
 use Rattle.image_octets.proofs.put_field.Statement.{statement}
 use Rattle.image_octets.proofs.put_field.Tie as tie
@@ -40,10 +40,10 @@ copy-requires : tie.Need-copy-requires
 copy-requires c κs = search needs
 
 same-length : tie.Need-same-length
-same-length c = length-laid (c .before .before .before .before .before .before .before .before .before .before .before .before .args .room .now) _ _ _ (field-laid (c .before .before .before .before .before .before .before .before .before .before .before .before .args .room .now) _ _ _ (c .before .before .before .before .before .before .before .before .before .before .before .before .args .tag) _ _ (length-part _ _ _) (room (c .before .before .before .before .before .before .before .before)) (c .before .before .before .before .before .before .put-u16 .ensures) (c .before .before .copy .ensures))
+same-length c = length-written (c .before .before .before .before .before .before .before .before .before .before .before .before .args .room .now) _ _ _ (field-written (c .before .before .before .before .before .before .before .before .before .before .before .before .args .room .now) _ _ _ (c .before .before .before .before .before .before .before .before .before .before .before .before .args .tag) _ _ (length-part _ _ _) (room (c .before .before .before .before .before .before .before .before)) (c .before .before .before .before .before .before .put-u16 .ensures) (c .before .before .copy .ensures))
 
 returns-2 : tie.Need-returns-2
-returns-2 c = search (field-laid, length-part, room)
+returns-2 c = search (field-written, length-part, room)
 
 pub put-field-spec : {M : Type 1} → statement M
 put-field-spec =

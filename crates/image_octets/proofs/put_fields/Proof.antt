@@ -1,4 +1,4 @@
--- `put_fields`: nothing without room, else field by field. The loop's invariant: the first i fields are laid. Assumes nothing.
+-- `put_fields`: nothing without room, else field by field. The loop's invariant: the first i fields are written. Assumes nothing.
 use Prim.Native.Nat.{_+_, _-_}
 use mathlib.Core.Path.{refl}
 use native.Mathlib.Nat.{zero-add}
@@ -6,8 +6,8 @@ use native.Mathlib.Omega.{arith}
 use Rattle.octets.proofs.Filled.{Filled, fill-start, fill-refused, fill-room, fill-next, fill-end}
 use Rattle.octets.proofs.Tests.{has-room}
 use Rattle.fields.specs.Fields.{tagAndLength}
-use Rattle.image_layout.proofs.Places.{small-product}
-use Rattle.image_octets.proofs.Laying.{rowField, length-row-field}
+use Rattle.image_layout.proofs.Offsets.{small-product}
+use Rattle.image_octets.proofs.Written.{rowField, length-row-field}
 use borrow.Author.Needs.{needs}
 use Rattle.image_octets.proofs.put_fields.Statement.{statement}
 use Rattle.image_octets.proofs.put_fields.Tie as tie

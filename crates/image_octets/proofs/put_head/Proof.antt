@@ -2,10 +2,10 @@
 use Prim.Native.Nat.{_≤_}
 use native.Mathlib.Omega.{arith}
 use lib.ListN.{length}
-use Rattle.octets.proofs.Runs.{put-refused, length-laid}
+use Rattle.octets.proofs.Runs.{put-refused, length-written}
 use Rattle.octets.proofs.Tests.{has-room-first}
 use Rattle.image_layout.specs.Layout.{headSize}
-use Rattle.image_octets.proofs.Laying.{head-size, head-laid, head-inside}
+use Rattle.image_octets.proofs.Written.{head-size, head-written, head-inside}
 use borrow.Author.Needs.{needs}
 use Rattle.image_octets.proofs.put_head.Statement.{statement}
 use Rattle.image_octets.proofs.put_head.Tie as tie
@@ -36,10 +36,10 @@ put-u32-requires : tie.Need-put-u32-requires
 put-u32-requires c κs = search needs
 
 same-length : tie.Need-same-length
-same-length c = length-laid (c .before .before .before .before .before .before .before .before .before .before .before .args .room .now) _ _ _ (head-laid (c .before .before .before .before .before .before .before .before .before .before .before .args .room .now) _ _ _ (room (c .before .before .before .before .before .before .before .before)) (c .before .before .before .before .before .before .put-u16 .ensures) (c .before .before .put-u32 .ensures))
+same-length c = length-written (c .before .before .before .before .before .before .before .before .before .before .before .args .room .now) _ _ _ (head-written (c .before .before .before .before .before .before .before .before .before .before .before .args .room .now) _ _ _ (room (c .before .before .before .before .before .before .before .before)) (c .before .before .before .before .before .before .put-u16 .ensures) (c .before .before .put-u32 .ensures))
 
 returns-2 : tie.Need-returns-2
-returns-2 c = search (head-laid, room)
+returns-2 c = search (head-written, room)
 
 pub put-head-spec : {M : Type 1} → statement M
 put-head-spec =

@@ -1,7 +1,7 @@
 -- `count_good`: test by test; the product is below the limit times a row. Assumes nothing.
 use native.Mathlib.Omega.{arith}
 use Rattle.image_write.proofs.Answers.{count-none, count-over, count-tested}
-use Rattle.image_layout.proofs.Places.{small-product}
+use Rattle.image_layout.proofs.Offsets.{small-product}
 use Rattle.image_write.proofs.count_good.Statement.{statement}
 use Rattle.image_write.proofs.count_good.Tie as tie
 

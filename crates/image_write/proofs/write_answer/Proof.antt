@@ -31,14 +31,14 @@ value-answer-requires c κs = search needs
 returns-2 : tie.Need-returns-2
 returns-2 c = search value-bad
 
-cast-data-place : tie.Need-cast-data-place
-cast-data-place c = let h = accounts-counted _ _ _ _ (counts (c .before .before .before)) .few in omega arith
+cast-data-offset : tie.Need-cast-data-offset
+cast-data-offset c = let h = accounts-counted _ _ _ _ (counts (c .before .before .before)) .few in omega arith
 
-cast-data-place-2 : tie.Need-cast-data-place-2
-cast-data-place-2 c = let h = links-counted _ _ _ _ (counts (c .before .before .before)) .few in omega arith
+cast-data-offset-2 : tie.Need-cast-data-offset-2
+cast-data-offset-2 c = let h = links-counted _ _ _ _ (counts (c .before .before .before)) .few in omega arith
 
-data-place-requires : tie.Need-data-place-requires
-data-place-requires c κs = search needs
+data-offset-requires : tie.Need-data-offset-requires
+data-offset-requires c κs = search needs
 
 returns-3 : tie.Need-returns-3
 returns-3 c = search room-short
@@ -49,5 +49,5 @@ returns-4 c = search room-enough
 pub write-answer-spec : {M : Type 1} → statement M
 write-answer-spec =
     tie.close
-    (tie.spec counts-good-requires returns cast-value-answer cast-value-answer-2 value-answer-requires returns-2 cast-data-place
-    cast-data-place-2 data-place-requires returns-3 returns-4)
+    (tie.spec counts-good-requires returns cast-value-answer cast-value-answer-2 value-answer-requires returns-2 cast-data-offset
+    cast-data-offset-2 data-offset-requires returns-3 returns-4)

@@ -1,4 +1,4 @@
--- `copy_padded`: the part octet by octet. The loop's invariant: the first i octets are laid. Assumes nothing.
+-- `copy_padded`: the part octet by octet. The loop's invariant: the first i octets are written. Assumes nothing.
 use Prim.Native.Nat.{_-_}
 use mathlib.Core.Path.{refl}
 use native.Mathlib.Nat.{min-le-right}
@@ -11,10 +11,10 @@ use Rattle.octets_write.proofs.copy_padded.Statement.{statement}
 use Rattle.octets_write.proofs.copy_padded.Tie as tie
 
 abbrev Inv-loop : tie.InvT-loop
-Inv-loop from at size to₀ place start i₀ to i = Filled to₀ place 1 (octetFrom from at) size i to
+Inv-loop from at size to₀ offset start i₀ to i = Filled to₀ offset 1 (octetFrom from at) size i to
 
 abbrev μ-loop : tie.MeasureT-loop
-μ-loop from at size to₀ place start i₀ to i = size - i
+μ-loop from at size to₀ offset start i₀ to i = size - i
 
 least-requires : tie.Need-least-requires Inv-loop μ-loop
 least-requires c κs = search needs

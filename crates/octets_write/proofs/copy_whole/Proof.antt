@@ -1,4 +1,4 @@
--- `copy_whole`: the part octet by octet. The loop's invariant: the first i octets are laid. Assumes nothing.
+-- `copy_whole`: the part octet by octet. The loop's invariant: the first i octets are written. Assumes nothing.
 use Prim.Native.Nat.{_-_}
 use mathlib.Core.Path.{refl}
 use native.Mathlib.Omega.{arith}
@@ -7,10 +7,10 @@ use Rattle.octets_write.proofs.copy_whole.Statement.{statement}
 use Rattle.octets_write.proofs.copy_whole.Tie as tie
 
 abbrev Inv-loop : tie.InvT-loop
-Inv-loop from at size to₀ place i₀ to i = Filled to₀ place 1 (octetFrom from at) size i to
+Inv-loop from at size to₀ offset i₀ to i = Filled to₀ offset 1 (octetFrom from at) size i to
 
 abbrev μ-loop : tie.MeasureT-loop
-μ-loop from at size to₀ place i₀ to i = size - i
+μ-loop from at size to₀ offset i₀ to i = size - i
 
 loop-holds : tie.Need-loop-holds Inv-loop μ-loop
 loop-holds c = fill-start (λ k. refl) (omega (arith, c .pre .1))

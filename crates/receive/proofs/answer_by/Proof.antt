@@ -1,9 +1,9 @@
--- `answer_by`: from the words read; each place lies in the record. Assumes nothing.
+-- `answer_by`: from the words read; each offset lies in the record. Assumes nothing.
 use Prim.Native.Nat.{_+_, _<_}
 use native.Mathlib.Omega.{arith}
-use Rattle.receive.specs.Lent.{recordWords}
-use Rattle.receive.proofs.Words.{number-inside, waits-inside, delivered-inside}
-use Rattle.receive.proofs.Judging.{answer-read}
+use Rattle.receive.specs.Lent.{memoryWords}
+use Rattle.receive.proofs.Words.{number-inside, awaiting-inside, delivered-inside}
+use Rattle.receive.proofs.Answering.{answer-read}
 use borrow.Author.Needs.{needs}
 use Rattle.receive.proofs.answer_by.Statement.{statement}
 use Rattle.receive.proofs.answer_by.Tie as tie
@@ -11,22 +11,22 @@ use Rattle.receive.proofs.answer_by.Tie as tie
 other-requires : tie.Need-other-requires
 other-requires c κs = search needs
 
-waits-place-requires : tie.Need-waits-place-requires
-waits-place-requires c κs = search needs
+awaiting-word-requires : tie.Need-awaiting-word-requires
+awaiting-word-requires c κs = search needs
 
 word-requires : tie.Need-word-requires
 word-requires c κs = search needs
 
-number-place-requires : tie.Need-number-place-requires
-number-place-requires c κs = search needs
+number-word-requires : tie.Need-number-word-requires
+number-word-requires c κs = search needs
 
 word-requires-2 : tie.Need-word-requires-2
 word-requires-2 c κs = search (needs, number-inside)
 
 word-requires-3 : tie.Need-word-requires-3
-word-requires-3 c κs = search (needs, waits-inside)
+word-requires-3 c κs = search (needs, awaiting-inside)
 
-inside : (c : tie.After-word3) → c .before .before .before .before .waits-place .result + 1 < recordWords
+inside : (c : tie.After-word3) → c .before .before .before .before .awaiting-word .result + 1 < memoryWords
 inside c = search (needs, delivered-inside)
 
 add-word : tie.Need-add-word
@@ -35,8 +35,8 @@ add-word c = omega (arith, inside c)
 word-requires-4 : tie.Need-word-requires-4
 word-requires-4 c κs = search (needs, delivered-inside)
 
-judge-requires : tie.Need-judge-requires
-judge-requires c κs = search needs
+reception-by-requires : tie.Need-reception-by-requires
+reception-by-requires c κs = search needs
 
 returns : tie.Need-returns
 returns c = search answer-read
@@ -46,12 +46,12 @@ answer-by-spec =
     tie.close
     (tie.spec
     other-requires
-    waits-place-requires
+    awaiting-word-requires
     word-requires
-    number-place-requires
+    number-word-requires
     word-requires-2
     word-requires-3
     add-word
     word-requires-4
-    judge-requires
+    reception-by-requires
     returns)

@@ -1,5 +1,5 @@
 -- `in_skew`: by its tests. Assumes nothing.
-use Rattle.receive.proofs.Judging.{skew-met, skew-after, skew-age}
+use Rattle.receive.proofs.Answering.{skew-met, skew-after, skew-age}
 use Rattle.receive.proofs.in_skew.Statement.{statement}
 use Rattle.receive.proofs.in_skew.Tie as tie
 

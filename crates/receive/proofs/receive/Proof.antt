@@ -3,7 +3,7 @@ use Prim.Native.Nat.{_+_, _*_, _≤_}
 use native.Mathlib.Omega.{arith}
 use lib.ListN.{length}
 use Rattle.receive.specs.Lent.{skewRowOctets}
-use Rattle.receive.proofs.Judging.{row-lent, record-lent, call-unknown, call-answered}
+use Rattle.receive.proofs.Answering.{row-lent, memory-lent, call-unknown, call-answered}
 use borrow.Author.Needs.{needs}
 use Rattle.receive.proofs.receive.Statement.{statement}
 use Rattle.receive.proofs.receive.Tie as tie
@@ -30,10 +30,10 @@ u32-at-requires : tie.Need-u32-at-requires
 u32-at-requires c κs = search needs
 
 answer-by-requires : tie.Need-answer-by-requires
-answer-by-requires c κs = search record-lent
+answer-by-requires c κs = search memory-lent
 
-keep-requires : tie.Need-keep-requires
-keep-requires c κs = search record-lent
+store-answer-requires : tie.Need-store-answer-requires
+store-answer-requires c κs = search memory-lent
 
 returns : tie.Need-returns
 returns c = search call-unknown
@@ -55,7 +55,7 @@ receive-spec =
     add-u32-at
     u32-at-requires
     answer-by-requires
-    keep-requires
+    store-answer-requires
     returns
     same-length
     returns-2)

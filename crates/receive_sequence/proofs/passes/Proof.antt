@@ -19,14 +19,14 @@ sub-last c = search needs
 cast-last : tie.Need-cast-last
 cast-last c = search needs
 
-one-on-requires : tie.Need-one-on-requires
-one-on-requires c κs = search needs
+next-requires : tie.Need-next-requires
+next-requires c κs = search needs
 
 returns-4 : tie.Need-returns-4
 returns-4 c = search passes-one
 
-one-on-requires-2 : tie.Need-one-on-requires-2
-one-on-requires-2 c κs = search needs
+next-requires-2 : tie.Need-next-requires-2
+next-requires-2 c κs = search needs
 
 returns-5 : tie.Need-returns-5
 returns-5 c = search passes-two
@@ -40,7 +40,7 @@ passes-spec =
     returns-3
     sub-last
     cast-last
-    one-on-requires
+    next-requires
     returns-4
-    one-on-requires-2
+    next-requires-2
     returns-5)

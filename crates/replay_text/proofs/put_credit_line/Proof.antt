@@ -1,7 +1,7 @@
 -- `put_credit_line`: three words, and then the line. Assumes nothing.
 use native.Mathlib.Omega.{arith}
 use Rattle.replay_text.specs.Text.{space, lineEnd, frameLine}
-use Rattle.replay_text.proofs.Words.{three, line-laid, word-most, word-code, word-credit}
+use Rattle.replay_text.proofs.Words.{three, line-appended, word-most, word-code, word-credit}
 use borrow.Author.Needs.{needs}
 use Rattle.replay_text.proofs.put_credit_line.Statement.{statement}
 use Rattle.replay_text.proofs.put_credit_line.Tie as tie
@@ -24,11 +24,11 @@ slice-aggregate-put-word-3 c = search needs
 put-word-requires-3 : tie.Need-put-word-requires-3
 put-word-requires-3 c κs = search needs
 
-slice-aggregate-lay : tie.Need-slice-aggregate-lay
-slice-aggregate-lay c = search needs
+slice-aggregate-put-text : tie.Need-slice-aggregate-put-text
+slice-aggregate-put-text c = search needs
 
-lay-requires : tie.Need-lay-requires
-lay-requires c κs = search needs
+put-text-requires : tie.Need-put-text-requires
+put-text-requires c κs = search needs
 
 same-length : tie.Need-same-length
 same-length c = search needs
@@ -38,14 +38,14 @@ unfolding frameLine
 returns c =
     let a = c .before .before .before .before .before .before .before .before .before .before .before .before .before .before .before .args in
     let f = c .before .before .before .before .before .before .before .before .before .before .before .before .before .before .before .fits in
-    line-laid _ _ _ _ _ _ _
+    line-appended _ _ _ _ _ _ _
     (three _ _ _ _ _ _ _ _ _ _
     (omega (arith, word-most (a .number) space, word-code (a .code) space (f .code .fits), word-credit (a .credit) lineEnd (f .credit .fits)))
     (c .before .before .before .before .before .before .before .before .before .before .before .before .put-word .ensures) (c .before .before .before .before .before .before .before .before .before .put-word2 .ensures) (c .before .before .before .before .before .before .put-word3 .ensures))
-    (c .before .before .lay .ensures)
+    (c .before .before .put-text .ensures)
 
 pub put-credit-line-spec : {M : Type 1} → statement M
 put-credit-line-spec =
     tie.close
     (tie.spec slice-aggregate-put-word put-word-requires slice-aggregate-put-word-2 put-word-requires-2 slice-aggregate-put-word-3
-    put-word-requires-3 slice-aggregate-lay lay-requires same-length returns)
+    put-word-requires-3 slice-aggregate-put-text put-text-requires same-length returns)

@@ -1,22 +1,22 @@
--- `put_cut`: its characters laid. Assumes nothing.
+-- `put_cut`: its characters written. Assumes nothing.
 use Rattle.octets.proofs.Parts.{part-whole}
 use Rattle.replay_text.specs.Text.{cutLine}
-use Rattle.replay_text.proofs.Words.{line-laid}
+use Rattle.replay_text.proofs.Words.{line-appended}
 use borrow.Author.Needs.{needs}
 use Rattle.replay_text.proofs.put_cut.Statement.{statement}
 use Rattle.replay_text.proofs.put_cut.Tie as tie
 
-slice-aggregate-lay : tie.Need-slice-aggregate-lay
-slice-aggregate-lay c = search needs
+slice-aggregate-put-text : tie.Need-slice-aggregate-put-text
+slice-aggregate-put-text c = search needs
 
-lay-requires : tie.Need-lay-requires
-lay-requires c κs = search needs
+put-text-requires : tie.Need-put-text-requires
+put-text-requires c κs = search needs
 
 same-length : tie.Need-same-length
 same-length c = search needs
 
 returns : tie.Need-returns
-returns c = line-laid _ _ _ _ _ _ _ (part-whole cutLine) (c .before .before .lay .ensures)
+returns c = line-appended _ _ _ _ _ _ _ (part-whole cutLine) (c .before .before .put-text .ensures)
 
 pub put-cut-spec : {M : Type 1} → statement M
-put-cut-spec = tie.close (tie.spec slice-aggregate-lay lay-requires same-length returns)
+put-cut-spec = tie.close (tie.spec slice-aggregate-put-text put-text-requires same-length returns)

@@ -1,11 +1,11 @@
--- `put_word`: the digits, and the character behind them. Assumes nothing.
+-- `put_word`: the digits, and the character after them. Assumes nothing.
 use Prim.Native.Nat.{_+_, _≤_}
 use native.Mathlib.Omega.{arith}
 use lib.ListN.{length}
-use Rattle.octets.proofs.Runs.{length-laid}
+use Rattle.octets.proofs.Runs.{length-written}
 use Rattle.octets.proofs.Tests.{has-room, no-room}
 use Rattle.replay_text.proofs.Decimal.{width-most}
-use Rattle.replay_text.proofs.Words.{word-not, word-laid}
+use Rattle.replay_text.proofs.Words.{word-not, word-appended}
 use borrow.Author.Needs.{needs}
 use Rattle.replay_text.proofs.put_word.Statement.{statement}
 use Rattle.replay_text.proofs.put_word.Tie as tie
@@ -33,7 +33,7 @@ add-line : tie.Need-add-line
 add-line c = omega (arith, room (c .before .before .before .before))
 
 slice-write-line : tie.Need-slice-write-line
-slice-write-line c = omega (arith, room (c .before .before .before .before), length-laid _ _ _ _ (c .before .before .put-digits .ensures))
+slice-write-line c = omega (arith, room (c .before .before .before .before), length-written _ _ _ _ (c .before .before .put-digits .ensures))
 
 add-result : tie.Need-add-result
 add-result c = omega (arith, room (c .before .before .before .before))
@@ -45,7 +45,7 @@ same-length : tie.Need-same-length
 same-length c = search needs
 
 returns-2 : tie.Need-returns-2
-returns-2 c = search (word-laid, room)
+returns-2 c = search (word-appended, room)
 
 pub put-word-spec : {M : Type 1} → statement M
 put-word-spec =

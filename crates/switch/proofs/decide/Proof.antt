@@ -7,8 +7,8 @@ use Rattle.switch.proofs.decide.Tie as tie
 sound-requires : tie.Need-sound-requires
 sound-requires c κs = search needs
 
-refused-requires : tie.Need-refused-requires
-refused-requires c κs = search needs
+kept-requires : tie.Need-kept-requires
+kept-requires c κs = search needs
 
 returns : tie.Need-returns
 returns c = search decided-link
@@ -16,8 +16,8 @@ returns c = search decided-link
 capacity-requires : tie.Need-capacity-requires
 capacity-requires c κs = search needs
 
-refused-requires-2 : tie.Need-refused-requires-2
-refused-requires-2 c κs = search needs
+kept-requires-2 : tie.Need-kept-requires-2
+kept-requires-2 c κs = search needs
 
 returns-2 : tie.Need-returns-2
 returns-2 c = search decided-account
@@ -25,8 +25,8 @@ returns-2 c = search decided-account
 port-code-requires : tie.Need-port-code-requires
 port-code-requires c κs = search needs
 
-refused-requires-3 : tie.Need-refused-requires-3
-refused-requires-3 c κs = search needs
+kept-requires-3 : tie.Need-kept-requires-3
+kept-requires-3 c κs = search needs
 
 returns-3 : tie.Need-returns-3
 returns-3 c = search decided-port
@@ -48,5 +48,5 @@ returns-4 c =
 pub decide-spec : {M : Type 1} → statement M
 decide-spec =
     tie.close
-    (tie.spec sound-requires refused-requires returns capacity-requires refused-requires-2 returns-2 port-code-requires
-    refused-requires-3 returns-3 cost-requires judge-requires verdict-of-requires returns-4)
+    (tie.spec sound-requires kept-requires returns capacity-requires kept-requires-2 returns-2 port-code-requires
+    kept-requires-3 returns-3 cost-requires judge-requires verdict-of-requires returns-4)

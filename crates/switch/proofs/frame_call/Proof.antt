@@ -4,8 +4,8 @@ use borrow.Author.Needs.{needs}
 use Rattle.switch.proofs.frame_call.Statement.{statement}
 use Rattle.switch.proofs.frame_call.Tie as tie
 
-in-use-requires : tie.Need-in-use-requires
-in-use-requires c κs = search needs
+accounts-in-use-requires : tie.Need-accounts-in-use-requires
+accounts-in-use-requires c κs = search needs
 
 find-link-requires : tie.Need-find-link-requires
 find-link-requires c κs = search needs
@@ -50,10 +50,10 @@ same-length-2 : tie.Need-same-length-2
 same-length-2 c = search needs
 
 returns-3 : tie.Need-returns-3
-returns-3 c = call-stored _ _ _ _ (c .before .before .before .before .before .before .before .before .before .find-link .ensures) _ (c .before .before .before .before .before .before .before .link .given .1) _ (c .before .before .before .before .before .before .before .before .before .before .in-use .ensures) _ _ (c .before .account-held .ensures) (c .decide .ensures)
+returns-3 c = call-stored _ _ _ _ (c .before .before .before .before .before .before .before .before .before .find-link .ensures) _ (c .before .before .before .before .before .before .before .link .given .1) _ (c .before .before .before .before .before .before .before .before .before .before .accounts-in-use .ensures) _ _ (c .before .account-held .ensures) (c .decide .ensures)
 
 pub frame-call-spec : {M : Type 1} → statement M
 frame-call-spec =
     tie.close
-    (tie.spec in-use-requires find-link-requires enum-known-code enum-known-link cast-a returns account-held-requires
+    (tie.spec accounts-in-use-requires find-link-requires enum-known-code enum-known-link cast-a returns account-held-requires
     decide-requires mul-credits slice-write-credits mul-lasts slice-write-lasts returns-2 same-length same-length-2 returns-3)

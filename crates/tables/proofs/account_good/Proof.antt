@@ -4,18 +4,18 @@ use borrow.Author.Needs.{needs}
 use Rattle.tables.proofs.account_good.Statement.{statement}
 use Rattle.tables.proofs.account_good.Tie as tie
 
-row-place-requires : tie.Need-row-place-requires
-row-place-requires c κs = search needs
+row-offset-requires : tie.Need-row-offset-requires
+row-offset-requires c κs = search needs
 
 terms-at-requires : tie.Need-terms-at-requires
 terms-at-requires c κs = search needs
 
-in-limits-requires : tie.Need-in-limits-requires
-in-limits-requires c κs = search needs
+are-good-requires : tie.Need-are-good-requires
+are-good-requires c κs = search needs
 
 returns : tie.Need-returns
 returns c = search account-row
 
 pub account-good-spec : {M : Type 1} → statement M
 account-good-spec =
-    tie.close (tie.spec row-place-requires terms-at-requires in-limits-requires returns)
+    tie.close (tie.spec row-offset-requires terms-at-requires are-good-requires returns)

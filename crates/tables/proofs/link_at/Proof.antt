@@ -1,8 +1,8 @@
--- `link_at`: the row itself, or its octets with zeros behind them. Assumes nothing.
+-- `link_at`: the row itself, or its octets with zeros after them. Assumes nothing.
 use mathlib.Core.Path.{_∙_}
 use native.Mathlib.Omega.{arith}
 use Rattle.octets.proofs.Tests.{fits}
-use Rattle.tables.proofs.Rows.{link-laid}
+use Rattle.tables.proofs.Rows.{link-written}
 use borrow.Author.Needs.{needs}
 use Rattle.tables.proofs.link_at.Statement.{statement}
 use Rattle.tables.proofs.link_at.Tie as tie
@@ -31,7 +31,7 @@ link-in-requires-2 c κs = search needs
 returns-2 : tie.Need-returns-2
 returns-2 c =
     let a = c .before .before .before .before .before .before .before .before .args in
-    c .link-in2 .ensures ∙ link-laid (a .rows .now) (a .at) _ _ (omega arith) (c .before .before .before .copy .ensures)
+    c .link-in2 .ensures ∙ link-written (a .rows .now) (a .at) _ _ (omega arith) (c .before .before .before .copy .ensures)
 
 pub link-at-spec : {M : Type 1} → statement M
 link-at-spec =

@@ -10,8 +10,8 @@ number-rises-requires c κs = search needs
 returns : tie.Need-returns
 returns c = search link-falls
 
-row-place-requires : tie.Need-row-place-requires
-row-place-requires c κs = search needs
+row-offset-requires : tie.Need-row-offset-requires
+row-offset-requires c κs = search needs
 
 link-at-requires : tie.Need-link-at-requires
 link-at-requires c κs = search needs
@@ -28,4 +28,4 @@ returns-2 c = search link-row
 pub link-good-spec : {M : Type 1} → statement M
 link-good-spec =
     tie.close
-    (tie.spec number-rises-requires returns row-place-requires link-at-requires smax-of-requires sound-requires returns-2)
+    (tie.spec number-rises-requires returns row-offset-requires link-at-requires smax-of-requires sound-requires returns-2)

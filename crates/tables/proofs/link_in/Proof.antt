@@ -1,4 +1,4 @@
--- `link_in`: each value at its place. Assumes nothing.
+-- `link_in`: each value at its offset. Assumes nothing.
 use Rattle.tables.proofs.Rows.{link-read}
 use borrow.Author.Needs.{needs}
 use Rattle.tables.proofs.link_in.Statement.{statement}

@@ -1,6 +1,6 @@
 -- `look_up`: the row found, which is there. Assumes nothing.
 use native.Mathlib.Omega.{arith}
-use Rattle.tables.proofs.Lookup.{found-inside, sought-absent, sought-present}
+use Rattle.tables.proofs.Lookups.{found-inside, lookup-absent, lookup-present}
 use borrow.Author.Needs.{needs}
 use Rattle.tables.proofs.look_up.Statement.{statement}
 use Rattle.tables.proofs.look_up.Tie as tie
@@ -21,10 +21,10 @@ link-in-requires : tie.Need-link-in-requires
 link-in-requires c κs = search found-inside
 
 returns : tie.Need-returns
-returns c = search sought-absent
+returns c = search lookup-absent
 
 returns-2 : tie.Need-returns-2
-returns-2 c = search sought-present
+returns-2 c = search lookup-present
 
 pub look-up-spec : {M : Type 1} → statement M
 look-up-spec =

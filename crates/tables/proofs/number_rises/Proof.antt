@@ -7,17 +7,17 @@ use Rattle.tables.proofs.number_rises.Tie as tie
 returns : tie.Need-returns
 returns c = search rises-first
 
-sub-row-place : tie.Need-sub-row-place
-sub-row-place c = search needs
+sub-row-offset : tie.Need-sub-row-offset
+sub-row-offset c = search needs
 
-row-place-requires : tie.Need-row-place-requires
-row-place-requires c κs = search needs
+row-offset-requires : tie.Need-row-offset-requires
+row-offset-requires c κs = search needs
 
 u16-at-requires : tie.Need-u16-at-requires
 u16-at-requires c κs = search needs
 
-row-place-requires-2 : tie.Need-row-place-requires-2
-row-place-requires-2 c κs = search needs
+row-offset-requires-2 : tie.Need-row-offset-requires-2
+row-offset-requires-2 c κs = search needs
 
 u16-at-requires-2 : tie.Need-u16-at-requires-2
 u16-at-requires-2 c κs = search needs
@@ -28,4 +28,4 @@ returns-2 c = search rises-later
 pub number-rises-spec : {M : Type 1} → statement M
 number-rises-spec =
     tie.close
-    (tie.spec returns sub-row-place row-place-requires u16-at-requires row-place-requires-2 u16-at-requires-2 returns-2)
+    (tie.spec returns sub-row-offset row-offset-requires u16-at-requires row-offset-requires-2 u16-at-requires-2 returns-2)

@@ -1,5 +1,5 @@
 -- `sizes_sound`: test by test. Assumes nothing.
-use Rattle.tables.proofs.Rules.{size-low, sizes-turned, sizes-tested}
+use Rattle.tables.proofs.Rules.{size-low, sizes-swapped, sizes-tested}
 use Rattle.tables.proofs.sizes_sound.Statement.{statement}
 use Rattle.tables.proofs.sizes_sound.Tie as tie
 
@@ -7,7 +7,7 @@ returns : tie.Need-returns
 returns c = search size-low
 
 returns-2 : tie.Need-returns-2
-returns-2 c = search sizes-turned
+returns-2 c = search sizes-swapped
 
 returns-3 : tie.Need-returns-3
 returns-3 c = search sizes-tested

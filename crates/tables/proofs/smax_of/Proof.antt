@@ -4,8 +4,8 @@ use borrow.Author.Needs.{needs}
 use Rattle.tables.proofs.smax_of.Statement.{statement}
 use Rattle.tables.proofs.smax_of.Tie as tie
 
-row-place-requires : tie.Need-row-place-requires
-row-place-requires c κs = search needs
+row-offset-requires : tie.Need-row-offset-requires
+row-offset-requires c κs = search needs
 
 u16-at-requires : tie.Need-u16-at-requires
 u16-at-requires c κs = search needs
@@ -14,4 +14,4 @@ returns : tie.Need-returns
 returns c = search smax-row
 
 pub smax-of-spec : {M : Type 1} → statement M
-smax-of-spec = tie.close (tie.spec row-place-requires u16-at-requires returns)
+smax-of-spec = tie.close (tie.spec row-offset-requires u16-at-requires returns)

@@ -1,8 +1,8 @@
--- `terms_at`: the row itself, or its octets with zeros behind them. Assumes nothing.
+-- `terms_at`: the row itself, or its octets with zeros after them. Assumes nothing.
 use mathlib.Core.Path.{_∙_}
 use native.Mathlib.Omega.{arith}
 use Rattle.octets.proofs.Tests.{fits}
-use Rattle.tables.proofs.Rows.{terms-laid}
+use Rattle.tables.proofs.Rows.{terms-written}
 use borrow.Author.Needs.{needs}
 use Rattle.tables.proofs.terms_at.Statement.{statement}
 use Rattle.tables.proofs.terms_at.Tie as tie
@@ -29,7 +29,7 @@ terms-in-requires-2 : tie.Need-terms-in-requires-2
 terms-in-requires-2 c κs = search needs
 
 returns-2 : tie.Need-returns-2
-returns-2 c = c .terms-in2 .ensures ∙ terms-laid _ _ _ _ (omega arith) (c .before .before .before .copy .ensures)
+returns-2 c = c .terms-in2 .ensures ∙ terms-written _ _ _ _ (omega arith) (c .before .before .before .copy .ensures)
 
 pub terms-at-spec : {M : Type 1} → statement M
 terms-at-spec =

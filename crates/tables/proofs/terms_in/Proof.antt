@@ -1,4 +1,4 @@
--- `terms_in`: each value at its place. Assumes nothing.
+-- `terms_in`: each value at its offset. Assumes nothing.
 use Rattle.tables.proofs.Rows.{terms-read}
 use borrow.Author.Needs.{needs}
 use Rattle.tables.proofs.terms_in.Statement.{statement}

@@ -3,8 +3,8 @@ use Prim.Native.Nat.{ℕ}
 use mathlib.Core.Path.{_≡_, sym, ap, _∙_}
 use Rattle.frame.specs.Frame.{lengthCode}
 use Rattle.account.specs.Step.{stepped}
-use Rattle.account.proofs.Methods.{none-invalid, some-valid, some-capacity}
-use Rattle.account.proofs.Step.{police-length, police-invalid, police-judged}
+use Rattle.account.proofs.Methods.{none-unsound, some-sound, some-capacity}
+use Rattle.account.proofs.Step.{police-length, police-unsound, police-judged}
 use borrow.Author.Needs.{needs}
 use Rattle.account.proofs.Account.police.Statement.{statement}
 use Rattle.account.proofs.Account.police.Tie as tie
@@ -23,7 +23,7 @@ capacity-requires : tie.Need-capacity-requires
 capacity-requires c κs = search needs
 
 returns-2 : tie.Need-returns-2
-returns-2 c = search (police-invalid, good, none-invalid)
+returns-2 c = search (police-unsound, good, none-unsound)
 
 cost-requires : tie.Need-cost-requires
 cost-requires c κs = search needs
@@ -38,7 +38,7 @@ returns-3 : tie.Need-returns-3
 returns-3 c =
     ap (stepped (c .before .judge .result .outcome)) (c .holding .ensures)
     ∙ c .before .judge .ensures
-    ∙ police-judged _ _ _ (good _ _ (c .before .before .before .before .before .before .length-code .ensures) (c .before .before .before .before .before .if1 .left)) (some-valid _ _ (c .before .before .before .before .capacity .ensures) (c .before .before .before .if2 .left)) _ _
+    ∙ police-judged _ _ _ (good _ _ (c .before .before .before .before .before .before .length-code .ensures) (c .before .before .before .before .before .if1 .left)) (some-sound _ _ (c .before .before .before .before .capacity .ensures) (c .before .before .before .if2 .left)) _ _
     (some-capacity _ _ (c .before .before .before .before .capacity .ensures) (c .before .before .before .if2 .left)) (c .before .before .cost .ensures)
 
 pub police-spec : {M : Type 1} → statement M

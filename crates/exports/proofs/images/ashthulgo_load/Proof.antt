@@ -1,4 +1,4 @@
--- `ashthulgo_load`: what loading answers, told. Assumes nothing.
+-- `ashthulgo_load`: what loading answers, reported. Assumes nothing.
 use Rattle.exports.proofs.Answers.{load-done}
 use borrow.Author.Needs.{needs}
 use Rattle.exports.proofs.images.ashthulgo_load.Statement.{statement}
@@ -7,8 +7,8 @@ use Rattle.exports.proofs.images.ashthulgo_load.Tie as tie
 load-requires : tie.Need-load-requires
 load-requires c κs = search needs
 
-tell-requires : tie.Need-tell-requires
-tell-requires c κs = search needs
+report-requires : tie.Need-report-requires
+report-requires c κs = search needs
 
 same-length : tie.Need-same-length
 same-length c = search needs
@@ -23,14 +23,14 @@ same-length-4 : tie.Need-same-length-4
 same-length-4 c = search needs
 
 returns : tie.Need-returns
-returns c = load-done _ _ _ _ (c .tell .ensures) (c .before .before .before .before .before .before .before .before .before .before .before .before .before .load .ensures)
+returns c = load-done _ _ _ _ (c .report .ensures) (c .before .before .before .before .before .before .before .before .before .before .before .before .before .load .ensures)
 
 pub ashthulgo-load-spec : {M : Type 1} → statement M
 ashthulgo-load-spec =
     tie.close
     (tie.spec
     load-requires
-    tell-requires
+    report-requires
     same-length
     same-length-2
     same-length-3

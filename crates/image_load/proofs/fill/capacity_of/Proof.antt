@@ -4,8 +4,8 @@ use borrow.Author.Needs.{needs}
 use Rattle.image_load.proofs.fill.capacity_of.Statement.{statement}
 use Rattle.image_load.proofs.fill.capacity_of.Tie as tie
 
-data-place-requires : tie.Need-data-place-requires
-data-place-requires c κs = search needs
+data-offset-requires : tie.Need-data-offset-requires
+data-offset-requires c κs = search needs
 
 terms-at-requires : tie.Need-terms-at-requires
 terms-at-requires c κs = search needs
@@ -18,4 +18,4 @@ returns c = search capacity-read
 
 pub capacity-of-spec : {M : Type 1} → statement M
 capacity-of-spec =
-    tie.close (tie.spec data-place-requires terms-at-requires capacity-requires returns)
+    tie.close (tie.spec data-offset-requires terms-at-requires capacity-requires returns)

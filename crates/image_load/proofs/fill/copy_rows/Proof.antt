@@ -1,4 +1,4 @@
--- `copy_rows`: nothing without room, else row by row. The loop's invariant: the first i rows are laid. Assumes nothing.
+-- `copy_rows`: nothing without room, else row by row. The loop's invariant: the first i rows are written. Assumes nothing.
 use Prim.Native.Nat.{_+_, _-_}
 use mathlib.Core.Path.{refl}
 use native.Mathlib.Nat.{min-le-right}
@@ -9,7 +9,7 @@ use Rattle.octets.proofs.Filled.{Filled, fill-start, fill-refused, fill-room, f
 use Rattle.octets.proofs.Tests.{has-room}
 use Rattle.rows.specs.Rows.{rowOctets}
 use Rattle.image_read.specs.Read.{fieldRows}
-use Rattle.image_layout.proofs.Places.{small-product}
+use Rattle.image_layout.proofs.Offsets.{small-product}
 use Rattle.image_load.proofs.Filling.{row-clamped}
 use borrow.Author.Needs.{needs}
 use Rattle.image_load.proofs.fill.copy_rows.Statement.{statement}

@@ -1,11 +1,11 @@
 -- `fill_runs`: run by run. Assumes nothing.
-use Rattle.image_load.proofs.Filling.{accounts-laid, links-laid}
+use Rattle.image_load.proofs.Filling.{accounts-written, links-written}
 use borrow.Author.Needs.{needs}
 use Rattle.image_load.proofs.fill.fill_runs.Statement.{statement}
 use Rattle.image_load.proofs.fill.fill_runs.Tie as tie
 
-data-place-requires : tie.Need-data-place-requires
-data-place-requires c κs = search needs
+data-offset-requires : tie.Need-data-offset-requires
+data-offset-requires c κs = search needs
 
 cast-copy-rows : tie.Need-cast-copy-rows
 cast-copy-rows c = search needs
@@ -19,8 +19,8 @@ fill-credits-requires c κs = search needs
 clear-lasts-requires : tie.Need-clear-lasts-requires
 clear-lasts-requires c κs = search needs
 
-data-place-requires-2 : tie.Need-data-place-requires-2
-data-place-requires-2 c κs = search needs
+data-offset-requires-2 : tie.Need-data-offset-requires-2
+data-offset-requires-2 c κs = search needs
 
 cast-copy-rows-2 : tie.Need-cast-copy-rows-2
 cast-copy-rows-2 c = search needs
@@ -42,12 +42,12 @@ same-length-4 c = search needs
 
 returns : tie.Need-returns
 returns c = (
-  accounts-laid _ _ _ _ _ (c .before .before .before .before .before .before .before .before .before .before .before .before .before .before .before .before .before .data-place .ensures) (c .before .before .before .before .before .before .before .before .before .before .before .before .before .before .before .copy-rows .ensures),
+  accounts-written _ _ _ _ _ (c .before .before .before .before .before .before .before .before .before .before .before .before .before .before .before .before .before .data-offset .ensures) (c .before .before .before .before .before .before .before .before .before .before .before .before .before .before .before .copy-rows .ensures),
   (
     c .before .before .before .before .before .before .before .before .before .before .before .fill-credits .ensures,
     (
       c .before .before .before .before .before .before .before .clear-lasts .ensures,
-      links-laid _ _ _ _ _ _ (c .before .before .before .before .data-place2 .ensures) (c .before .before .copy-rows2 .ensures),
+      links-written _ _ _ _ _ _ (c .before .before .before .before .data-offset2 .ensures) (c .before .before .copy-rows2 .ensures),
     ),
   ),
 )
@@ -55,5 +55,5 @@ returns c = (
 pub fill-runs-spec : {M : Type 1} → statement M
 fill-runs-spec =
     tie.close
-    (tie.spec data-place-requires cast-copy-rows copy-rows-requires fill-credits-requires clear-lasts-requires
-    data-place-requires-2 cast-copy-rows-2 copy-rows-requires-2 same-length same-length-2 same-length-3 same-length-4 returns)
+    (tie.spec data-offset-requires cast-copy-rows copy-rows-requires fill-credits-requires clear-lasts-requires
+    data-offset-requires-2 cast-copy-rows-2 copy-rows-requires-2 same-length same-length-2 same-length-3 same-length-4 returns)

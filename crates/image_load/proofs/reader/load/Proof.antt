@@ -46,14 +46,14 @@ use denote.Triple.Spec.{Meets, tripleOf}
 use denote.Triple.Table.{entered, cited}
 use denote.Triple.Walked.{says, Stays, stay-ref, gave-slice, walkOf, AllGo, goes-ref, goes-gave-slice, Walks, ends-at, walked, walk-meets}
 use Rattle.image_load.specs.Loading.{runsOf, loadingOf, loading}
-use Rattle.image_read.specs.declared.Loaded.{Loaded}
+use Rattle.image_read.specs.declared.ImageAnswer.{ImageAnswer}
 use Rattle.image_load.specs.declared.reader.Reader.{Reader}
 use Rattle.image_load.proofs.load as lib-load
 use Rattle.image_load.proofs.load.Symbol as lib-load-def
 use Rattle.image_load.proofs.load.Symbol.{name as #image-load·load}
 use Rattle.image_load.proofs.load.Met as lib-load-thm
-use Rattle.image_read.proofs.Loaded as S
-use Rattle.image_read.proofs.Loaded.Laws as S′
+use Rattle.image_read.proofs.ImageAnswer as S
+use Rattle.image_read.proofs.ImageAnswer.Laws as S′
 use Rattle.image_load.proofs.reader.Reader as T
 use Rattle.image_load.proofs.reader.Reader.Laws as T′
 use Rattle.image_load.proofs.reader.load.Key.{name as #image-load·reader·load}
@@ -68,7 +68,7 @@ abbrev α : Lft → NamedLft
 abbrev B : Lft → RattleType
 B κ′ = T.the-row (α κ′)
 
--- `Reader<'a>`, as the referent's place in the signature
+-- `Reader<'a>`, as the referent's offset in the signature
 abbrev behind : Slot 6
 behind = plain (λ κs. T.the-row (namedLft 6 1 tt κs))
 
@@ -107,7 +107,7 @@ module _ {M : Type 1} (𝓤 : URA M) (H : Heap 𝓤) (A : Atoms 𝓤) (W : Given
   abbrev v : Val
   v = sv (h .image)
 
-  abbrev Said : Loaded → Zs → Type 0
+  abbrev Said : ImageAnswer → Zs → Type 0
   Said r zs = loadingOf r (runsOf (zs .1 .0) (zs .1 .1 .0) (zs .1 .1 .1 .0) (zs .1 .1 .1 .1 .0)) ≡ loading (now (h .image)) (runsOf (now x₁) (now x₂) (now x₃) (now x₄))
 
   abbrev h′ : ℕ → Reader
@@ -169,19 +169,19 @@ module _ {M : Type 1} (𝓤 : URA M) (H : Heap 𝓤) (A : Atoms 𝓤) (W : Given
   again n ok = qed W (‵ Own ∷ []) ∵ owned ! usize (Is usize) (uint-makes 𝓤 H A W w64) n _ (refl, ok) $ move ! (1 ∷ 0 ∷ []) $ by ! (own-put 𝓤 H A W D L 1 vd n mach)
 
   -- the machine value of an answer, and what is known of it
-  abbrev ofS : Loaded → List Val
+  abbrev ofS : ImageAnswer → List Val
   ofS r = LL.vals S.the-type S′.the-laws r
 
-  same : (r : Loaded) (u : Val) → Is S.the-row r (u ∷ []) → u ∷ [] ≡ ofS r
+  same : (r : ImageAnswer) (u : Val) → Is S.the-row r (u ∷ []) → u ∷ [] ≡ ofS r
   same r u is = LL.tells S.the-type S′.the-laws r (u ∷ []) is
 
-  is-at : (r : Loaded) (u : Val) → Is S.the-row r (u ∷ []) → Is S.the-row r (ofS r)
+  is-at : (r : ImageAnswer) (u : Val) → Is S.the-row r (u ∷ []) → Is S.the-row r (ofS r)
   is-at r u is = subst (λ (vs : List Val). Is S.the-row r vs) (same r u is) is
 
-  offset-fits : (r : Loaded) (u : Val) → Is S.the-row r (u ∷ []) → r .offset < 2 ^ 64
+  offset-fits : (r : ImageAnswer) (u : Val) → Is S.the-row r (u ∷ []) → r .offset < 2 ^ 64
   offset-fits r u is = LL.owed S.the-type S′.the-laws r (u ∷ []) is .1 .0 .1
 
-  exits : (r : Loaded) (zs : Zs) → Said r zs → Is S.the-row r (ofS r) → length (zs .1 .0) ≡ length (now x₁) → length (zs .1 .1 .0) ≡ length (now x₂) → length (zs .1 .1 .1 .0) ≡ length (now x₃) → length (zs .1 .1 .1 .1 .0) ≡ length (now x₄)
+  exits : (r : ImageAnswer) (zs : Zs) → Said r zs → Is S.the-row r (ofS r) → length (zs .1 .0) ≡ length (now x₁) → length (zs .1 .1 .0) ≡ length (now x₂) → length (zs .1 .1 .1 .0) ≡ length (now x₃) → length (zs .1 .1 .1 .1 .0) ≡ length (now x₄)
       → ent 𝓤 (⋆ 𝓤 H A (‵ (fobs γ (B κ′ .coded .code (h′ (r .offset)))) ∷ ‵ (fbor κ (Body (mem (B κ′)) b o γ)) ∷ ‵ (flft κ q) ∷ toks ∷ ‵ (finally u8 (x₁ .name) (zs .1 .0)) ∷ ‵ (finally u32 (x₂ .name) (zs .1 .1 .0)) ∷ ‵ (finally u64 (x₃ .name) (zs .1 .1 .1 .0)) ∷ ‵ (finally u8 (x₄ .name) (zs .1 .1 .1 .1 .0)) ∷ [])) (Post (only (ofS r)))
   exits r zs e is l₁ l₂ l₃ l₄ =
       qed W (‵ (fobs γ (B κ′ .coded .code (h′ (r .offset)))) ∷ ‵ (fbor κ (Body (mem (B κ′)) b o γ)) ∷ ‵ (flft κ q) ∷ toks ∷ ‵ (finally u8 (x₁ .name) (zs .1 .0)) ∷ ‵ (finally u32 (x₂ .name) (zs .1 .1 .0)) ∷ ‵ (finally u64 (x₃ .name) (zs .1 .1 .1 .0)) ∷ ‵ (finally u8 (x₄ .name) (zs .1 .1 .1 .1 .0)) ∷ []) ∵
@@ -220,7 +220,7 @@ module _ {M : Type 1} (𝓤 : URA M) (H : Heap 𝓤) (A : Atoms 𝓤) (W : Given
         move ! (1 ∷ 5 ∷ 6 ∷ []) $ use3 W (raw (LibLoad 𝓤 H A at-mem run .pre to) ⊛ ‵ Own) apart $ split ! $
         -- [what the callee asks; what a Reader owns; the struct's cell; the open borrow; obs; auth; _15 at 6; …; _1 at 34; …; room for _0; …]
         calls-at ! fm (LibLoad 𝓤 H A at-mem run) known to (and-then ! (load ! (from ! (stop !)) (look ! 22 refl)) (and-then ! (load ! (from ! (stop !)) (look ! 18 refl)) (and-then ! (load ! (from ! (stop !)) (look ! 14 refl)) (and-then ! (load ! (from ! (stop !)) (look ! 10 refl)) (and-then ! (load ! (from ! (stop !)) (look ! 6 refl)) (no-more !)))))) (λ u.
-        use1 W (later (some (λ (r : Loaded). (toks ⊛ ‵ (S.the-row .own r (u ∷ []))) ⊛ raw (ensured 𝓤 H A lib-load.ended (lib-load.clauses 𝓤 H A at-mem run) (κ′, (κ₁, (κ₂, (κ₃, (κ₄, tt))))) given-args tt r)))) (id⊢ 𝓤 _) $ await ! tt $ pick ! (λ r.
+        use1 W (later (some (λ (r : ImageAnswer). (toks ⊛ ‵ (S.the-row .own r (u ∷ []))) ⊛ raw (ensured 𝓤 H A lib-load.ended (lib-load.clauses 𝓤 H A at-mem run) (κ′, (κ₁, (κ₂, (κ₃, (κ₄, tt))))) given-args tt r)))) (id⊢ 𝓤 _) $ await ! tt $ pick ! (λ r.
         -- what the callee ensures, at some last lists
         split ! $ move ! (1 ∷ []) $ use1 W (some (λ (zs : Zs). ‵ (lasts lib-load.ended (κ′, (κ₁, (κ₂, (κ₃, (κ₄, tt))))) given-args zs) ⊛ raw (fact 𝓤 (Said r zs)))) (id⊢ 𝓤 _) $ pick ! (λ zs.
         split ! $ move ! (1 ∷ []) $ heard ! (Said r zs) (λ e. fsplit ! $ drop ! $

@@ -6,7 +6,7 @@ use native.Mathlib.Omega.{arith}
 use Rattle.lists.specs.Leading.{leading}
 use Rattle.lists.proofs.Leading.{leading-zero, count-stops, count-goes-on, count-full}
 use Rattle.image_layout.specs.Layout.{accountTag, maxAccounts}
-use Rattle.image_read.specs.Read.{goodField, accountCount}
+use Rattle.image_read.specs.Read.{goodField, goodAccounts}
 use borrow.Author.Needs.{needs}
 use Rattle.image_read.proofs.count.count_accounts.Statement.{statement}
 use Rattle.image_read.proofs.count.count_accounts.Tie as tie
@@ -24,7 +24,7 @@ good-account-requires : tie.Need-good-account-requires Inv-loop μ-loop
 good-account-requires c κs = c .loop-test .taken
 
 returns : tie.Need-returns Inv-loop μ-loop
-unfolding accountCount
+unfolding goodAccounts
 returns c = search count-stops
 
 add-i : tie.Need-add-i Inv-loop μ-loop
@@ -40,7 +40,7 @@ loop-again c = (
 )
 
 returns-2 : tie.Need-returns-2 Inv-loop μ-loop
-unfolding accountCount
+unfolding goodAccounts
 returns-2 c = search count-full
 
 pub count-accounts-spec : {M : Type 1} → statement M

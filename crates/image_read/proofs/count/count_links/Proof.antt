@@ -7,7 +7,7 @@ use native.Mathlib.Omega.{arith}
 use Rattle.lists.specs.Leading.{leading}
 use Rattle.lists.proofs.Leading.{leading-zero, count-stops, count-goes-on, count-full}
 use Rattle.image_layout.specs.Layout.{linkTag, maxLinks}
-use Rattle.image_read.specs.Read.{goodField, linkCount}
+use Rattle.image_read.specs.Read.{goodField, goodLinks}
 use Rattle.image_read.proofs.Passing.{links-none}
 use borrow.Author.Needs.{needs}
 use Rattle.image_read.proofs.count.count_links.Statement.{statement}
@@ -33,7 +33,7 @@ good-link-requires : tie.Need-good-link-requires Inv-loop μ-loop
 good-link-requires c κs = let z = c .before .before .if1 .left in (omega arith, c .loop-test .taken)
 
 returns-2 : tie.Need-returns-2 Inv-loop μ-loop
-unfolding linkCount
+unfolding goodLinks
 returns-2 c = search count-stops
 
 add-j : tie.Need-add-j Inv-loop μ-loop
@@ -50,7 +50,7 @@ loop-again c = (
 )
 
 returns-3 : tie.Need-returns-3 Inv-loop μ-loop
-unfolding linkCount
+unfolding goodLinks
 returns-3 c = search count-full
 
 pub count-links-spec : {M : Type 1} → statement M

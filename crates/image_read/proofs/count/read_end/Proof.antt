@@ -7,8 +7,8 @@ use Rattle.image_read.proofs.count.read_end.Tie as tie
 next-code-requires : tie.Need-next-code-requires
 next-code-requires c κs = search needs
 
-field-place-requires : tie.Need-field-place-requires
-field-place-requires c κs = search needs
+field-offset-requires : tie.Need-field-offset-requires
+field-offset-requires c κs = search needs
 
 refused-requires : tie.Need-refused-requires
 refused-requires c κs = search needs
@@ -16,8 +16,8 @@ refused-requires c κs = search needs
 returns : tie.Need-returns
 returns c = search end-refused
 
-data-place-requires : tie.Need-data-place-requires
-data-place-requires c κs = search needs
+data-offset-requires : tie.Need-data-offset-requires
+data-offset-requires c κs = search needs
 
 refused-requires-2 : tie.Need-refused-requires-2
 refused-requires-2 c κs = search needs
@@ -34,5 +34,5 @@ returns-3 c = search end-accepted
 pub read-end-spec : {M : Type 1} → statement M
 read-end-spec =
     tie.close
-    (tie.spec next-code-requires field-place-requires refused-requires returns data-place-requires refused-requires-2 returns-2
+    (tie.spec next-code-requires field-offset-requires refused-requires returns data-offset-requires refused-requires-2 returns-2
     u32-at-requires returns-3)

@@ -6,8 +6,8 @@ use borrow.Author.Needs.{needs}
 use Rattle.image_read.proofs.field.good_account.Statement.{statement}
 use Rattle.image_read.proofs.field.good_account.Tie as tie
 
-field-place-requires : tie.Need-field-place-requires
-field-place-requires c κs = search needs
+field-offset-requires : tie.Need-field-offset-requires
+field-offset-requires c κs = search needs
 
 stands-requires : tie.Need-stands-requires
 stands-requires c κs = search needs
@@ -33,8 +33,8 @@ part-terms-at-end c = omega (arith, inside _ _ _ _ _ (c .before .stands .ensures
 terms-at-requires : tie.Need-terms-at-requires
 terms-at-requires c κs = search needs
 
-in-limits-requires : tie.Need-in-limits-requires
-in-limits-requires c κs = search needs
+are-good-requires : tie.Need-are-good-requires
+are-good-requires c κs = search needs
 
 returns-2 : tie.Need-returns-2
 returns-2 c = search (account-valued, account-values)
@@ -42,5 +42,5 @@ returns-2 c = search (account-valued, account-values)
 pub good-account-spec : {M : Type 1} → statement M
 good-account-spec =
     tie.close
-    (tie.spec field-place-requires stands-requires returns add-row add-terms-at sub-terms-at part-terms-at-start part-terms-at-end
-    terms-at-requires in-limits-requires returns-2)
+    (tie.spec field-offset-requires stands-requires returns add-row add-terms-at sub-terms-at part-terms-at-start part-terms-at-end
+    terms-at-requires are-good-requires returns-2)

@@ -9,8 +9,8 @@ use borrow.Author.Needs.{needs}
 use Rattle.image_read.proofs.field.good_link.Statement.{statement}
 use Rattle.image_read.proofs.field.good_link.Tie as tie
 
-field-place-requires : tie.Need-field-place-requires
-field-place-requires c κs = search needs
+field-offset-requires : tie.Need-field-offset-requires
+field-offset-requires c κs = search needs
 
 stands-requires : tie.Need-stands-requires
 stands-requires c κs = search needs
@@ -37,7 +37,7 @@ link-at-requires : tie.Need-link-at-requires
 link-at-requires c κs = search needs
 
 number-rises-requires : tie.Need-number-rises-requires
-number-rises-requires c κs = ap (λ (l : Link). l .number) (link-in _ _ _ _ (c .before .before .before .before .field-place .ensures) _ (c .link-at .ensures))
+number-rises-requires c κs = ap (λ (l : Link). l .number) (link-in _ _ _ _ (c .before .before .before .before .field-offset .ensures) _ (c .link-at .ensures))
 
 returns-2 : tie.Need-returns-2
 returns-2 c = search (link-valued, link-falls)
@@ -54,5 +54,5 @@ returns-3 c = search (link-valued, link-values, link-in)
 pub good-link-spec : {M : Type 1} → statement M
 good-link-spec =
     tie.close
-    (tie.spec field-place-requires stands-requires returns add-row add-link-at sub-link-at part-link-at-start part-link-at-end
+    (tie.spec field-offset-requires stands-requires returns add-row add-link-at sub-link-at part-link-at-start part-link-at-end
     link-at-requires number-rises-requires returns-2 smax-of-requires sound-requires returns-3)

@@ -4,8 +4,8 @@ use borrow.Author.Needs.{needs}
 use Rattle.image_read.proofs.field.next_code.Statement.{statement}
 use Rattle.image_read.proofs.field.next_code.Tie as tie
 
-field-place-requires : tie.Need-field-place-requires
-field-place-requires c κs = search needs
+field-offset-requires : tie.Need-field-offset-requires
+field-offset-requires c κs = search needs
 
 read-requires : tie.Need-read-requires
 read-requires c κs = search needs
@@ -31,5 +31,5 @@ returns c = search next-is
 pub next-code-spec : {M : Type 1} → statement M
 next-code-spec =
     tie.close
-    (tie.spec field-place-requires read-requires in-order-requires is-full-requires values-good-requires data-octets-requires
+    (tie.spec field-offset-requires read-requires in-order-requires is-full-requires values-good-requires data-octets-requires
     field-code-requires returns)

@@ -8,11 +8,11 @@ use Rattle.image_read.proofs.field.number_rises.Tie as tie
 returns : tie.Need-returns
 returns c = search rises-first
 
-sub-data-place : tie.Need-sub-data-place
-sub-data-place c = search needs
+sub-data-offset : tie.Need-sub-data-offset
+sub-data-offset c = search needs
 
-data-place-requires : tie.Need-data-place-requires
-data-place-requires c κs = search needs
+data-offset-requires : tie.Need-data-offset-requires
+data-offset-requires c κs = search needs
 
 u16-at-requires : tie.Need-u16-at-requires
 u16-at-requires c κs = search needs
@@ -22,4 +22,4 @@ returns-2 c = search rises-above
 
 pub number-rises-spec : {M : Type 1} → statement M
 number-rises-spec =
-    tie.close (tie.spec returns sub-data-place data-place-requires u16-at-requires returns-2)
+    tie.close (tie.spec returns sub-data-offset data-offset-requires u16-at-requires returns-2)

@@ -4,8 +4,8 @@ use borrow.Author.Needs.{needs}
 use Rattle.image_read.proofs.field.smax_of.Statement.{statement}
 use Rattle.image_read.proofs.field.smax_of.Tie as tie
 
-data-place-requires : tie.Need-data-place-requires
-data-place-requires c κs = search needs
+data-offset-requires : tie.Need-data-offset-requires
+data-offset-requires c κs = search needs
 
 u16-at-requires : tie.Need-u16-at-requires
 u16-at-requires c κs = search needs
@@ -14,4 +14,4 @@ returns : tie.Need-returns
 returns c = search account-smax
 
 pub smax-of-spec : {M : Type 1} → statement M
-smax-of-spec = tie.close (tie.spec data-place-requires u16-at-requires returns)
+smax-of-spec = tie.close (tie.spec data-offset-requires u16-at-requires returns)

@@ -14,8 +14,8 @@ returns c = search constant-bad
 bad-account-requires : tie.Need-bad-account-requires
 bad-account-requires c κs = search needs
 
-field-place-requires : tie.Need-field-place-requires
-field-place-requires c κs = search needs
+field-offset-requires : tie.Need-field-offset-requires
+field-offset-requires c κs = search needs
 
 returns-2 : tie.Need-returns-2
 unfolding badAccount
@@ -24,15 +24,15 @@ returns-2 c = search account-bad
 bad-link-requires : tie.Need-bad-link-requires
 bad-link-requires c κs = search needs
 
-field-place-requires-2 : tie.Need-field-place-requires-2
-field-place-requires-2 c κs = search needs
+field-offset-requires-2 : tie.Need-field-offset-requires-2
+field-offset-requires-2 c κs = search needs
 
 returns-3 : tie.Need-returns-3
 unfolding badAccount badLink
 returns-3 c = search link-bad
 
-data-place-requires : tie.Need-data-place-requires
-data-place-requires c κs = search needs
+data-offset-requires : tie.Need-data-offset-requires
+data-offset-requires c κs = search needs
 
 returns-4 : tie.Need-returns-4
 unfolding badAccount badLink
@@ -41,5 +41,5 @@ returns-4 c = search all-good
 pub value-answer-spec : {M : Type 1} → statement M
 value-answer-spec =
     tie.close
-    (tie.spec constant-good-requires returns bad-account-requires field-place-requires returns-2 bad-link-requires
-    field-place-requires-2 returns-3 data-place-requires returns-4)
+    (tie.spec constant-good-requires returns bad-account-requires field-offset-requires returns-2 bad-link-requires
+    field-offset-requires-2 returns-3 data-offset-requires returns-4)

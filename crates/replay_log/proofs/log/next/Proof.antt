@@ -1,7 +1,7 @@
 -- `next`: each return is a case of the definition. Assumes nothing.
 use mathlib.Core.Path.{ap}
 use Rattle.fields.specs.declared.Field.{Field}
-use Rattle.replay_log.proofs.Records.{next-end, next-more, next-tag, next-open, next-stamped}
+use Rattle.replay_log.proofs.Records.{next-end, next-more, next-tag, next-open, next-logged}
 use borrow.Author.Needs.{needs}
 use Rattle.replay_log.proofs.log.next.Statement.{statement}
 use Rattle.replay_log.proofs.log.next.Tie as tie
@@ -28,7 +28,7 @@ record-at-requires : tie.Need-record-at-requires
 record-at-requires c κs = search needs
 
 returns-5 : tie.Need-returns-5
-returns-5 c = next-stamped _ _ _ (c .before .before .before .before .before .before .if1 .left) _ (ap (λ (x : Field). x .tag) (c .before .before .before .before .before .read .ensures)) (c .before .before .before .if3 .left) _ (ap (λ (x : Field). x .headed) (c .before .before .before .before .before .read .ensures)) _ (c .before .if4 .left) (c .record-at .ensures)
+returns-5 c = next-logged _ _ _ (c .before .before .before .before .before .before .if1 .left) _ (ap (λ (x : Field). x .tag) (c .before .before .before .before .before .read .ensures)) (c .before .before .before .if3 .left) _ (ap (λ (x : Field). x .headed) (c .before .before .before .before .before .read .ensures)) _ (c .before .if4 .left) (c .record-at .ensures)
 
 pub next-spec : {M : Type 1} → statement M
 next-spec =

@@ -1,4 +1,4 @@
--- `to_front`: nothing where the run is too short, else octet by octet. The loop's invariant: the first i octets are laid, so
+-- `to_front`: nothing where the run is too short, else octet by octet. The loop's invariant: the first i octets are written, so
 -- those read next are as they were. Assumes nothing.
 use Prim.Native.Nat.{_-_}
 use mathlib.Core.Path.{refl, sym, _∙_}

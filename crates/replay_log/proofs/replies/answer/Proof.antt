@@ -23,7 +23,7 @@ same-length-2 : tie.Need-same-length-2
 same-length-2 c = search needs
 
 returns-2 : tie.Need-returns-2
-returns-2 c = answer-copied _ _ _ _ (c .before .before .before .before .before .before .before .before .before .before .before .before .before .before .before .before .before .before .args .stamp) _ _ (c .before .before .before .before .before .before .before .before .before .before .before .copy .ensures) (search needs) (c .before .before .before .before .judge .ensures)
+returns-2 c = answer-copied _ _ _ _ (c .before .before .before .before .before .before .before .before .before .before .before .before .before .before .before .before .before .before .args .logged) _ _ (c .before .before .before .before .before .before .before .before .before .before .before .copy .ensures) (search needs) (c .before .before .before .before .judge .ensures)
 
 pub answer-spec : {M : Type 1} → statement M
 answer-spec =

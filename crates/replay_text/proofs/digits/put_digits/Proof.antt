@@ -1,4 +1,4 @@
--- `put_digits`: nothing without room, else digit by digit from the last. The loop's invariant: the digits from i on are laid.
+-- `put_digits`: nothing without room, else digit by digit from the last. The loop's invariant: the digits from i on are written.
 -- Assumes nothing.
 use Prim.Native.Nat.{_+_, _-_, _≤_}
 use mathlib.Core.Path.{_≡_, refl}
@@ -9,7 +9,7 @@ use Rattle.octets.specs.Runs.{put}
 use Rattle.octets.proofs.Runs.{put-refused}
 use Rattle.octets.proofs.Tests.{has-room}
 use Rattle.replay_text.specs.Digits.{digitsOf, tensLeft}
-use Rattle.replay_text.proofs.Decimal.{length-digits, tens-none, lay-start, lay-rest, lay-digit, lay-all}
+use Rattle.replay_text.proofs.Decimal.{length-digits, tens-none, digits-start, digits-rest, digits-digit, digits-all}
 use Rattle.replay_text.proofs.digits.put_digits.Statement.{statement}
 use Rattle.replay_text.proofs.digits.put_digits.Tie as tie
 
@@ -34,7 +34,7 @@ loop-holds : tie.Need-loop-holds Inv-loop μ-loop
 loop-holds c =
     let a = c .before .before .before .args in
     let z : a .w - a .w ≡ 0 = omega arith in
-    (omega arith, lay-start (a .to .now) (a .at) (a .w) (a .x), rw z (tens-none (a .x)), refl)
+    (omega arith, digits-start (a .to .now) (a .at) (a .w) (a .x), rw z (tens-none (a .x)), refl)
 
 sub-i : tie.Need-sub-i Inv-loop μ-loop
 sub-i c = omega arith
@@ -55,13 +55,13 @@ loop-less : tie.Need-loop-less Inv-loop μ-loop
 loop-less c = omega arith
 
 loop-again : tie.Need-loop-again Inv-loop μ-loop
-loop-again c = search (room, lay-digit, lay-rest, needs)
+loop-again c = search (room, digits-digit, digits-rest, needs)
 
 same-length : tie.Need-same-length Inv-loop μ-loop
 same-length c = search needs
 
 returns-2 : tie.Need-returns-2 Inv-loop μ-loop
-returns-2 c = search lay-all
+returns-2 c = search digits-all
 
 pub put-digits-spec : {M : Type 1} → statement M
 put-digits-spec =

@@ -1,4 +1,4 @@
--- `put_fields`: field by field; the place stays far below 2^64. Assumes nothing.
+-- `put_fields`: field by field; the offset stays far below 2^64. Assumes nothing.
 use Prim.Native.Nat.{_+_, _-_, _*_, _≤_}
 use mathlib.Core.Path.{_≡_, refl}
 use native.Mathlib.Omega.{arith}
@@ -8,10 +8,10 @@ use Rattle.sheet.proofs.images.put_fields.Statement.{statement}
 use Rattle.sheet.proofs.images.put_fields.Tie as tie
 
 abbrev Inv-loop : tie.InvT-loop
-Inv-loop room₀ at step n x y place₀ i₀ room place i = (i ≤ n) × (place ≤ 65535 + 255 * i) × (length room ≡ length room₀)
+Inv-loop room₀ at step n x y place₀ i₀ room offset i = (i ≤ n) × (offset ≤ 65535 + 255 * i) × (length room ≡ length room₀)
 
 abbrev μ-loop : tie.MeasureT-loop
-μ-loop room₀ at step n x y place₀ i₀ room place i = n - i
+μ-loop room₀ at step n x y place₀ i₀ room offset i = n - i
 
 loop-holds : tie.Need-loop-holds Inv-loop μ-loop
 loop-holds c = (omega arith, omega arith, refl)
@@ -34,8 +34,8 @@ add-put-u64 c = omega arith
 put-u64-requires-2 : tie.Need-put-u64-requires-2 Inv-loop μ-loop
 put-u64-requires-2 c κs = search needs
 
-add-place : tie.Need-add-place Inv-loop μ-loop
-add-place c = omega arith
+add-offset : tie.Need-add-offset Inv-loop μ-loop
+add-offset c = omega arith
 
 add-i : tie.Need-add-i Inv-loop μ-loop
 add-i c = omega arith
@@ -65,7 +65,7 @@ put-fields-spec =
     put-u64-requires
     add-put-u64
     put-u64-requires-2
-    add-place
+    add-offset
     add-i
     loop-less
     loop-again

@@ -4,17 +4,17 @@ use borrow.Author.Needs.{needs}
 use Rattle.terms.proofs.Terms.capacity.Statement.{statement}
 use Rattle.terms.proofs.Terms.capacity.Tie as tie
 
-in-limits-requires : tie.Need-in-limits-requires
-in-limits-requires c κs = search needs
+are-good-requires : tie.Need-are-good-requires
+are-good-requires c κs = search needs
 
 returns : tie.Need-returns
-returns c = none-full _ _ (c .before .in-limits .ensures) (c .if1 .taken)
+returns c = none-full _ _ (c .before .are-good .ensures) (c .if1 .taken)
 
 rate-requires : tie.Need-rate-requires
 rate-requires c κs = search needs
 
 bag-of-requires : tie.Need-bag-of-requires
-bag-of-requires c κs = limits-tested _ _ (c .before .before .in-limits .ensures) (c .before .if1 .left) .k-high
+bag-of-requires c κs = limits-tested _ _ (c .before .before .are-good .ensures) (c .before .if1 .left) .k-high
 
 cast-result : tie.Need-cast-result
 cast-result c = search needs
@@ -32,7 +32,7 @@ pub capacity-spec : {M : Type 1} → statement M
 capacity-spec =
     tie.close
     (tie.spec
-    in-limits-requires
+    are-good-requires
     returns
     rate-requires
     bag-of-requires

@@ -5,8 +5,8 @@ use borrow.Author.Needs.{needs}
 use Rattle.terms.proofs.Terms.cost.Statement.{statement}
 use Rattle.terms.proofs.Terms.cost.Tie as tie
 
-in-limits-requires : tie.Need-in-limits-requires
-in-limits-requires c κs = search needs
+are-good-requires : tie.Need-are-good-requires
+are-good-requires c κs = search needs
 
 returns : tie.Need-returns
 returns c = search none-charged
@@ -19,14 +19,14 @@ returns-2 c = search no-frame
 
 cast-charged : tie.Need-cast-charged
 cast-charged c =
-    let h = frame-high _ _ (c .before .before .before .in-limits .ensures) (c .before .before .if1 .left) _ _ (c .before .is-frame-size .ensures) (c .if2 .left) in
+    let h = frame-high _ _ (c .before .before .before .are-good .ensures) (c .before .before .if1 .left) _ _ (c .before .is-frame-size .ensures) (c .if2 .left) in
     omega (arith, h)
 
 charged-requires : tie.Need-charged-requires
 charged-requires c κs = search needs
 
 bag-of-requires : tie.Need-bag-of-requires
-bag-of-requires c κs = limits-tested _ _ (c .before .before .before .before .in-limits .ensures) (c .before .before .before .if1 .left) .k-high
+bag-of-requires c κs = limits-tested _ _ (c .before .before .before .before .are-good .ensures) (c .before .before .before .if1 .left) .k-high
 
 mul-result : tie.Need-mul-result
 mul-result c = record { fits = search product-fits }
@@ -38,7 +38,7 @@ pub cost-spec : {M : Type 1} → statement M
 cost-spec =
     tie.close
     (tie.spec
-    in-limits-requires
+    are-good-requires
     returns
     is-frame-size-requires
     returns-2

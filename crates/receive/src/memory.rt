@@ -1,0 +1,101 @@
+// The records, one after the other in one run of words: where a word stands, reading it, and what an answer leaves.
+// A row's record is lent whole wherever one is read or changed.
+ghost use mathlib.Core.Path.{_≡_};
+ghost use Prim.Native.Nat.{_+_, _*_, _≤_, _<_};
+ghost use lib.ListN.{length};
+ghost use Rattle.receive.specs.Lent.{index, memoryWords, numberWord, awaitingWord, word, store, noted, met, delivered};
+ghost use Rattle.receive.specs.Receive.{memoryAfter};
+use super::Arrival;
+use super::MEMORY_WORDS;
+use super::Network;
+use super::Reception;
+
+// The link's last time.
+pub(crate) const TIME_WORD: usize = 0;
+
+fn index(network: Network) -> usize
+    ensures { λ r. ⌜ r ≡ index network ⌝ }
+{
+    match network {
+        Network::A => 0,
+        Network::B => 1,
+    }
+}
+
+// The last number that was received on a network.
+pub(crate) fn number_word(network: Network) -> usize
+    ensures { λ r. ⌜ r ≡ numberWord network ⌝ }
+{
+    1 + index(network)
+}
+
+// Whether the delivery of a number on a network awaits its copy; its time is in the word after. Two words a number,
+// 256 numbers a network, after the time and the two last numbers.
+pub(crate) fn awaiting_word(network: Network, number: u8) -> usize
+    ensures { λ r. ⌜ r ≡ awaitingWord network number ⌝ }
+{
+    3 + 512 * index(network) + 2 * number as usize
+}
+
+pub(crate) fn word(memory: &[u64], row: usize, at: usize) -> u64
+    requires { ⌜ memoryWords * row + memoryWords ≤ length (now memory) ⌝ ∗ ⌜ at < memoryWords ⌝ }
+    ensures { λ r. ⌜ r ≡ word (now (memory .entry)) row at ⌝ }
+{
+    memory[MEMORY_WORDS * row + at]
+}
+
+fn store(memory: &mut [u64], row: usize, at: usize, value: u64)
+    requires { ⌜ memoryWords * row + memoryWords ≤ length (now memory) ⌝ ∗ ⌜ at < memoryWords ⌝ }
+    ensures { λ r. ⌜ now (memory .exit) ≡ store (now (memory .entry)) row at value ⌝ }
+{
+    memory[MEMORY_WORDS * row + at] = value;
+}
+
+// A frame's time and number.
+fn note(memory: &mut [u64], row: usize, frame: Arrival)
+    requires { ⌜ memoryWords * row + memoryWords ≤ length (now memory) ⌝ }
+    ensures { λ r. ⌜ now (memory .exit) ≡ noted (now (memory .entry)) row frame ⌝ }
+{
+    let network = frame.network;
+    let held = frame.number as u64 + 1;
+    store(memory, row, TIME_WORD, frame.time);
+    store(memory, row, number_word(network), held);
+}
+
+// A delivery that has met its copy.
+fn meet(memory: &mut [u64], row: usize, network: Network, number: u8)
+    requires { ⌜ memoryWords * row + memoryWords ≤ length (now memory) ⌝ }
+    ensures { λ r. ⌜ now (memory .exit) ≡ met (now (memory .entry)) row network number ⌝ }
+{
+    store(memory, row, awaiting_word(network, number), 0);
+}
+
+// A delivery that awaits its copy.
+fn await_copy(memory: &mut [u64], row: usize, frame: Arrival)
+    requires { ⌜ memoryWords * row + memoryWords ≤ length (now memory) ⌝ }
+    ensures { λ r. ⌜ now (memory .exit) ≡ delivered (now (memory .entry)) row frame ⌝ }
+{
+    let network = frame.network;
+    let at = awaiting_word(network, frame.number);
+    store(memory, row, at, 1);
+    store(memory, row, at + 1, frame.time);
+}
+
+// What an answer leaves.
+pub(crate) fn store_answer(memory: &mut [u64], row: usize, frame: Arrival, answer: Reception)
+    requires { ⌜ memoryWords * row + memoryWords ≤ length (now memory) ⌝ }
+    ensures { λ r. ⌜ now (memory .exit) ≡ memoryAfter (now (memory .entry)) row frame answer ⌝ }
+{
+    if !answer.taken() {
+        return;
+    }
+    note(memory, row, frame);
+    let network = frame.network;
+    match answer {
+        Reception::Copy => meet(memory, row, super::other(network), frame.number),
+        Reception::Delivered => await_copy(memory, row, frame),
+        Reception::OutOfSequence => (),
+        Reception::UnknownLink => (),
+        Reception::Late => (),
+    }
+}
