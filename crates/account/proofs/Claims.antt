@@ -14,13 +14,11 @@ use Rattle.terms.specs.Terms.{capacity, cost}
 use Rattle.terms.proofs.Limits.{limits, cost-low, cost-capacity}
 use Rattle.account.specs.Account.{termsOf, holding, accountSound, creditAt, costOf, toppedUp, debited}
 use Rattle.account.specs.Step.{StepReport, stepReported, Stepped, stepped, policed}
-use Rattle.account.specs.Claims.{SoundLimits, StepsApart, StepAnswers, RefusedStepKeeps, ShortStepTopsUp}
-use Rattle.account.specs.Claims.{ForwardedStepTakesCost, StepIsTopUpAndDebit, FullTopUp, StepBelowCapacity, Reports, RefusedStepReports, Idle, RefusedMethodsIdle}
+use Rattle.account.specs.Claims.{SoundLimits, StepsApart, StepAnswers, RefusedStepKeeps, ShortStepTopsUp, ForwardedStepTakesCost, StepIsTopUpAndDebit, FullTopUp, StepBelowCapacity, Reports, RefusedStepReports, Idle, RefusedMethodsIdle}
 use Rattle.account.specs.declared.Account.{Account}
 use Rattle.account.specs.declared.Outcome.{Outcome}
 use Rattle.account.specs.declared.Outcome.the-variants.{Forwarded, Short, Late, Refused}
-use Rattle.account.proofs.Methods.{sound-limits, sound-credit, sound-by, capacity-not, credit-at-high, credit-at-full, top-up-unsound, top-up-late, top-up-sound}
-use Rattle.account.proofs.Methods.{cost-refused, cost-unsound, cost-sound, debit-enough, debit-short}
+use Rattle.account.proofs.Methods.{sound-limits, sound-credit, sound-by, capacity-not, credit-at-high, credit-at-full, top-up-unsound, top-up-late, top-up-sound, cost-refused, cost-unsound, cost-sound, debit-enough, debit-short}
 use Rattle.account.proofs.Step.{by-step}
 
 pub sound-within : SoundLimits

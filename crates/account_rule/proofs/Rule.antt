@@ -20,8 +20,7 @@ use Rattle.account_rule.specs.Bucket.{Reached, reached, lastTime, ruleHo
 use Rattle.account_rule.specs.Rule.{StepCall, steppingAccount, accountAfter, allowance, Ruled, ruled, ruleArrived, ruleStep, ruleOfAccount, stepRulePast, AllowanceByMode, RuleOfSteps, StepsInWords}
 use Rattle.account.specs.declared.Account.{Account}
 use Rattle.account.specs.declared.Outcome.the-variants.{Forwarded, Short}
-use Rattle.account_rule.proofs.Bucket.{gain, held, topped, held-high, rule-read}
-use Rattle.account_rule.proofs.Bucket.{Sound as SoundBucket, rule-is as bucket-rule}
+use Rattle.account_rule.proofs.Bucket.{gain, held, topped, held-high, rule-read, Sound as SoundBucket, rule-is as bucket-rule}
 use Rattle.terms.proofs.Claims.{formulas-by-mode}
 use Rattle.account.proofs.Methods.{sound-by}
 use Rattle.account.proofs.Step.{by-step, police-length}

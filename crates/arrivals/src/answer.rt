@@ -1,9 +1,9 @@
 // One frame by what is lent; the records are kept for the next.
 use super::room::Room;
 use super::say;
-use receive::Arrival;
-use receive::Network;
-use receive::Reception;
+use receive_answer::Arrival;
+use receive_answer::Network;
+use receive_answer::Reception;
 use script::Line;
 
 // An answer, with the records after it.

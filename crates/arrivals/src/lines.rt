@@ -3,7 +3,7 @@ use super::answer;
 use super::room;
 use super::room::Room;
 use super::say;
-use receive::Network;
+use receive_answer::Network;
 
 // What is lent after a line, which is printed.
 fn done(room: Room, text: &[u8]) -> Room {

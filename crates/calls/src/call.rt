@@ -3,7 +3,7 @@ use super::room::Room;
 use super::say;
 use script::Line;
 use switch::Ingress;
-use switch::Verdict;
+use switch_verdict::Verdict;
 use tables::Settings;
 
 // A verdict, with all credits and last times after it.

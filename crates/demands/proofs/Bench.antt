@@ -17,10 +17,12 @@ use Rattle.account_rule.specs.Bench.{Case, termsP, byteCases, frameCases}
 use Rattle.lists.specs.Leading.{leading}
 use Rattle.rows.specs.Rows.{foundIn}
 use Rattle.tables.specs.Rows.{Config, termsAt, linkAt, accountIn, configFor}
-use Rattle.tables.specs.Rules.{portsSound, sizesSound, linkSound, accountGood, numberRises, linkGood}
+use Rattle.tables_rules.specs.Rules.{portsSound, sizesSound, linkSound, accountGood, numberRises, linkGood}
 use Rattle.image_layout.specs.Layout.{fieldOffset, constantGood}
-use Rattle.image_read.specs.Read.{accountFields, fieldCode, headGood, headCode, inOrder, dataOctets, isFull, valuesGood, nextCode, goodField, goodAccounts, goodLinks, readEnd, readImage}
-use Rattle.image_load.specs.Loading.{Runs, runsOf, accountRows, linkRows, capacities, longEnough, loading}
+use Rattle.image_read.specs.Read.{goodField, goodAccounts, goodLinks, readEnd, readImage}
+use Rattle.image_field.specs.Checks.{accountFields, fieldCode, headGood, headCode, inOrder, dataOctets, isFull, valuesGood, nextCode}
+use Rattle.image_load.specs.Loading.{longEnough, loading}
+use Rattle.image_fill.specs.Filling.{Runs, runsOf, accountRows, linkRows, capacities}
 use Rattle.image_load.specs.Fresh.{Begins, Fresh}
 use Rattle.image_read.specs.Bench.{accountP, linkP, imageP, answerP}
 use Rattle.image_read.specs.declared.ImageAnswer.{ImageAnswer}

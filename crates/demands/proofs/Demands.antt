@@ -9,7 +9,8 @@ use Rattle.account.proofs.Claims.{forwarded-step-takes-cost, refused-methods-id
 use Rattle.account_rule.proofs.Bench.{bench-table}
 use Rattle.account_rule.proofs.Bucket.{rule-read}
 use Rattle.account_rule.proofs.Rule.{allowance-by-mode, rule-of-steps, steps-in-words}
-use Rattle.tables.proofs.Claims.{finds-first, finds-none, link-accepted, link-refused, sizes-within-smax}
+use Rattle.tables.proofs.Claims.{finds-first, finds-none}
+use Rattle.tables_rules.proofs.Claims.{link-accepted, link-refused, sizes-within-smax}
 use Rattle.image_layout.proofs.Claims.{constant-limits, image-figures}
 use Rattle.image_read.proofs.Bench.{image-p-reads}
 use Rattle.image_read.proofs.Claims.{accepted-ends, read-codes, read-field-by-field}
@@ -19,7 +20,8 @@ use Rattle.image_load.proofs.Fresh.{fresh-holds, fresh-sound, load-accepts, loa
 use Rattle.image_load.proofs.Prefix.{prefix-load}
 use Rattle.image_write.proofs.Claims.{first-bad-account, first-bad-constant, first-bad-link, image-length, refused-write-keeps, write-accepts, write-codes, write-offsets, write-refuses, writes-image}
 use Rattle.image_round_trip.proofs.RoundTrips.{accepted-is-image, image-is-accepted, read-write, write-read}
-use Rattle.switch.proofs.Claims.{call-answers, call-effects, codes-in-order, length-alone, ports-beyond, refused-call-keeps, rows-beyond-unread, verdicts-apart}
+use Rattle.switch.proofs.Claims.{call-answers, call-effects, codes-in-order, length-alone, ports-beyond, refused-call-keeps, rows-beyond-unread}
+use Rattle.switch_verdict.proofs.Claims.{verdicts-apart}
 use Rattle.demands.proofs.Bench.{call-bench-table, meant-limits}
 use Rattle.demands.proofs.Isolation.{isolation, isolation-of-fresh-tables}
 use Rattle.demands.proofs.Rule.{rule-of-fresh-tables}

@@ -17,7 +17,8 @@ use Rattle.rows.specs.declared.Found.{Found}
 use Rattle.rows.specs.declared.Found.the-variants.{At, Nowhere}
 use Rattle.rows.proofs.Finding.{first-found}
 use Rattle.tables.proofs.Claims.{links-same}
-use Rattle.image_read.specs.Read.{linkFields, readImage}
+use Rattle.image_read.specs.Read.{readImage}
+use Rattle.image_field.specs.Checks.{linkFields}
 use Rattle.filter.specs.Filter.{frameCode, portCode}
 use Rattle.switch.specs.Call.{State, Call, refusedWith, byLink, called}
 use Rattle.filter.proofs.Filter.{frame-zero}

@@ -17,10 +17,11 @@ use Rattle.tables.specs.Rows.{Config}
 use Rattle.rows.specs.declared.Found.{Found}
 use Rattle.rows.specs.declared.Found.the-variants.{At, Nowhere}
 use Rattle.image_read.specs.Read.{readImage}
-use Rattle.image_load.specs.Loading.{Runs, loading}
+use Rattle.image_load.specs.Loading.{loading}
+use Rattle.image_fill.specs.Filling.{Runs}
 use Rattle.image_load.specs.Fresh.{Fresh}
-use Rattle.switch.specs.Verdict.{Report, reported, withMask}
-use Rattle.switch.specs.declared.Verdict.the-variants.{Refused}
+use Rattle.switch_verdict.specs.Verdict.{Report, reported, withMask}
+use Rattle.switch_verdict.specs.declared.Verdict.the-variants.{Refused}
 use Rattle.switch.specs.Call.{State, Call, accountHeld}
 use Rattle.demands.specs.History.{callsOn, finalState, configIn, stateIn}
 use Rattle.demands.specs.Rule.{imageTerms, imageLink, linkRow, filterCode, names, destinationOctets, meant, reachedIn}

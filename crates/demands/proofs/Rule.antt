@@ -1,6 +1,6 @@
 -- Demand 3's first half. Each account stays the one that the frames which reached it leave, so that every call answers with the code of
 -- the rule, and with data that the image and those frames settle. Assumes nothing.
-use Prim.Native.Nat.{ℕ, _+_, _≤_, _<_}
+use Prim.Native.Nat.{ℕ, _≤_, _<_}
 use mathlib.Core.Bool.{true, false, not}
 use mathlib.Core.List.{List, [], _∷_, reverse}
 use mathlib.Core.Path.{_≡_, refl, sym, ap, _∙_, subst}
@@ -28,14 +28,14 @@ use Rattle.tables.specs.Rows.{Config}
 use Rattle.rows.specs.declared.Found.{Found}
 use Rattle.rows.specs.declared.Found.the-variants.{At, Nowhere}
 use Rattle.tables.specs.declared.Link.{Link}
-use Rattle.tables.proofs.Rules.{sound-account}
+use Rattle.tables_rules.proofs.Rules.{sound-account}
 use Rattle.image_read.specs.Read.{readImage}
-use Rattle.image_load.specs.Loading.{Runs}
+use Rattle.image_fill.specs.Filling.{Runs}
 use Rattle.image_load.specs.Fresh.{Fresh}
 use Rattle.filter.specs.Filter.{portCode}
-use Rattle.switch.specs.Verdict.{Report, reported, withMask}
+use Rattle.switch_verdict.specs.Verdict.{Report, reported, withMask}
 use Rattle.switch.specs.Call.{State, stateOf, Call, After, accountsInUse, inUseBy, accountHeld, Decided, kept, decided, stored, refusedWith, byLink, called}
-use Rattle.switch.specs.declared.Verdict.the-variants.{Refused}
+use Rattle.switch_verdict.specs.declared.Verdict.the-variants.{Refused}
 use Rattle.filter.proofs.Filter.{frame-zero}
 use Rattle.switch.proofs.Call.{held-again, decided-refused, decided-policed}
 use Rattle.demands.specs.History.{callsOn, callAnswers, finalState, configIn, stateIn}

@@ -8,10 +8,10 @@ use Rattle.terms.specs.Terms.{termsGood, capacity}
 use Rattle.terms.specs.declared.Terms.{Terms}
 use Rattle.account.specs.Account.{accountOf, loaded}
 use Rattle.tables.specs.Rows.{Config, accountOctets, linkOctets, accountTable, linkTable, accountIn, linkIn}
-use Rattle.tables.specs.Rules.{linkSound, accountGood}
-use Rattle.tables.proofs.Rules.{sound-account}
+use Rattle.tables_rules.specs.Rules.{linkSound, accountGood}
+use Rattle.tables_rules.proofs.Rules.{sound-account}
 use Rattle.image_read.specs.Read.{readImage}
-use Rattle.image_load.specs.Loading.{Runs}
+use Rattle.image_fill.specs.Filling.{Runs}
 use Rattle.image_load.specs.Fresh.{Fresh, HoldsImage, SoundTables}
 use Rattle.image_load.proofs.Fresh.{Long, held-long, fresh-holds, fresh-sound}
 use Rattle.switch.specs.Call.{accountHeld}

@@ -15,7 +15,8 @@ use Rattle.account_rule.specs.Rule.{allowance, ruleArrived}
 use Rattle.account_rule.proofs.Rule.{in-words}
 use Rattle.tables.specs.Rows.{Config, configFor}
 use Rattle.image_read.specs.Read.{readImage}
-use Rattle.image_load.specs.Loading.{Runs, loading}
+use Rattle.image_load.specs.Loading.{loading}
+use Rattle.image_fill.specs.Filling.{Runs}
 use Rattle.image_load.specs.Fresh.{Fresh}
 use Rattle.image_read.specs.declared.ImageAnswer.{ImageAnswer}
 use Rattle.image_load.proofs.Fresh.{load-fresh}

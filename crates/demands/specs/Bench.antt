@@ -3,15 +3,16 @@
 -- cost of case 3, the sums of case 4 and the top-up of case 10, of the account values that image P is here said to have.
 use Prim.Native.Nat.{ℕ, _-_, _^_}
 use mathlib.Core.Bool.{true}
-use mathlib.Core.List.{List, [], _∷_, map}
+use mathlib.Core.List.{List, _∷_, map}
 use mathlib.Core.Path.{_≡_}
 use lib.ListN.{getD, set, replicate}
 use Rattle.terms.specs.Terms.{byteMode, frameMode}
 use Rattle.account_rule.specs.Bench.{Case, termsP, byteCases, frameCases}
 use Rattle.image_read.specs.Bench.{imageP, answerP}
-use Rattle.image_load.specs.Loading.{Runs, longEnough, loading}
+use Rattle.image_load.specs.Loading.{longEnough, loading}
+use Rattle.image_fill.specs.Filling.{Runs}
 use Rattle.image_round_trip.specs.RoundTrips.{loadedTables}
-use Rattle.switch.specs.Verdict.{Report, withMask}
+use Rattle.switch_verdict.specs.Verdict.{Report, withMask}
 use Rattle.switch.specs.Call.{State, Call, callOf}
 use Rattle.demands.specs.History.{callAnswers, finalState, stateIn}
 use Rattle.demands.specs.Rule.{imageTerms}

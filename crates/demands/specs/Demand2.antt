@@ -8,7 +8,8 @@ use Rattle.frame.specs.Claims.{LengthLimits, PayloadLength}
 use Rattle.terms.specs.Claims.{FormulasByMode, CapacityLargest, CostLargest, TermsLimits, CheckedMethods}
 use Rattle.account.specs.Claims.{SoundLimits, ForwardedStepTakesCost, StepIsTopUpAndDebit, RefusedMethodsIdle}
 use Rattle.account_rule.specs.Bench.{BenchTable}
-use Rattle.tables.specs.Claims.{FindsFirst, FindsNone, SizesWithinSmax, LinkRefused, LinkAccepted}
+use Rattle.tables.specs.Claims.{FindsFirst, FindsNone}
+use Rattle.tables_rules.specs.Claims.{SizesWithinSmax, LinkRefused, LinkAccepted}
 use Rattle.image_layout.specs.Claims.{ImageFigures, ConstantLimits}
 use Rattle.image_read.specs.Bench.{ImagePReads}
 use Rattle.image_read.specs.Claims.{AcceptedEnds, ReadFieldByField, PrefixRead}

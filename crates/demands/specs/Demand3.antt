@@ -14,7 +14,8 @@ use Rattle.account_rule.specs.Rule.{allowance, AllowanceByMode, RuleOfSteps, St
 use Rattle.tables.specs.Rows.{Config}
 use Rattle.image_read.specs.Read.{readImage}
 use Rattle.image_read.specs.Bench.{imageP, answerP}
-use Rattle.image_load.specs.Loading.{Runs, loading}
+use Rattle.image_load.specs.Loading.{loading}
+use Rattle.image_fill.specs.Filling.{Runs}
 use Rattle.image_load.specs.Fresh.{Fresh}
 use Rattle.image_round_trip.specs.RoundTrips.{loadedTables}
 use Rattle.switch.specs.Call.{State, Call, callOf, called}

@@ -5,8 +5,8 @@ use Rattle.lists.specs.History
 use Rattle.lists.specs.History.{Machine}
 use Rattle.tables.specs.Rows.{Config, configFor}
 use Rattle.image_read.specs.Read.{readImage}
-use Rattle.image_load.specs.Loading.{Runs}
-use Rattle.switch.specs.Verdict.{Report}
+use Rattle.image_fill.specs.Filling.{Runs}
+use Rattle.switch_verdict.specs.Verdict.{Report}
 use Rattle.switch.specs.Call.{State, stateOf, Call, called}
 
 -- frame calls on these tables: what a call answers, and the credits and last times that it leaves

@@ -17,7 +17,8 @@ use Rattle.tables.specs.Rows.{accountIn, linkIn}
 use Rattle.rows.specs.declared.Found.{Found}
 use Rattle.rows.specs.declared.Found.the-variants.{At, Nowhere}
 use Rattle.tables.specs.declared.Link.{Link}
-use Rattle.image_read.specs.Read.{accountFields, linkFields, readImage}
+use Rattle.image_read.specs.Read.{readImage}
+use Rattle.image_field.specs.Checks.{accountFields, linkFields}
 use Rattle.filter.specs.Filter.{frameCode, portCode}
 use Rattle.switch.specs.Call.{Call}
 

@@ -11,15 +11,17 @@ use Rattle.account.specs.Step.{Stepped, policed}
 use Rattle.account.specs.declared.Account.{Account}
 use Rattle.account.proofs.Step.{policed-keeps}
 use Rattle.image_read.specs.declared.ImageAnswer.{ImageAnswer}
-use Rattle.image_load.specs.Loading.{Runs, Loading, loadingOf}
-use Rattle.switch.specs.Verdict.{Report}
+use Rattle.image_load.specs.Loading.{Loading, loadingOf}
+use Rattle.image_fill.specs.Filling.{Runs}
+use Rattle.switch_verdict.specs.Verdict.{Report}
 use Rattle.switch.specs.Call.{State, After, afterOf}
 use Rattle.exports.specs.Numbers.{stepSays, stepDone, stepDoneOf, callSays, callDone, callDoneOf, networkOf, receptionDone, receptionDoneOf}
-use Rattle.receive.specs.Lent.{arrivalOf}
-use Rattle.receive.specs.Receive.{receptionCode as receptionTold, receivedOf as receivedOf, received}
-use Rattle.receive.specs.declared.Network.{Network}
-use Rattle.receive.specs.declared.Network.the-variants.{A, B}
-use Rattle.receive.specs.declared.Reception.{Reception}
+use Rattle.receive_answer.specs.Answer.{arrivalOf}
+use Rattle.receive.specs.Receive.{receivedOf, received}
+use Rattle.receive_answer.specs.Answer.{receptionCode}
+use Rattle.receive_answer.specs.declared.Network.{Network}
+use Rattle.receive_answer.specs.declared.Network.the-variants.{A, B}
+use Rattle.receive_answer.specs.declared.Reception.{Reception}
 use Rattle.exports.specs.declared.accounts.StepNumbers.{StepNumbers}
 use Rattle.exports.specs.declared.calls.CallNumbers.{CallNumbers}
 
@@ -54,7 +56,7 @@ pub network-b : (n : ℕ) → (n ≡ 0 → ⊥) → B ≡ networkOf n
 network-b n d = simp (ne-eqb _ _ d)
 
 pub reception-done : (rows r : List ℕ) (link : ℕ) (x : Network) (n t m : ℕ) (a : Reception) (s : List ℕ) (k : ℕ) → x ≡ networkOf m
-    → receivedOf a s ≡ received rows r (arrivalOf link x n t) → k ≡ receptionTold a
+    → receivedOf a s ≡ received rows r (arrivalOf link x n t) → k ≡ receptionCode a
     → receptionDone k s ≡ receptionDoneOf (received rows r (arrivalOf link (networkOf m) n t))
 reception-done rows r link x n t m a s k e q p =
     ap (λ (y : ℕ). receptionDone y s) p

@@ -9,14 +9,15 @@ use Rattle.lists.specs.Choice.{if_then_else_}
 use Rattle.frame.specs.declared.Header.{Header}
 use Rattle.terms.specs.Terms.{termsWith}
 use Rattle.account.specs.Account.{accountOf}
-use Rattle.account.specs.Step.{StepReport as StepTold, Stepped}
+use Rattle.account.specs.Step.{StepReport, Stepped}
 use Rattle.account.specs.declared.Account.{Account}
 use Rattle.image_read.specs.declared.ImageAnswer.{ImageAnswer}
-use Rattle.switch.specs.Verdict.{Report}
+use Rattle.switch_verdict.specs.Verdict.{Report}
 use Rattle.switch.specs.Call.{State, After}
-use Rattle.receive.specs.Receive.{receptionCode, Received as Received}
-use Rattle.receive.specs.declared.Network.{Network}
-use Rattle.receive.specs.declared.Network.the-variants.{A, B}
+use Rattle.receive.specs.Receive.{Received}
+use Rattle.receive_answer.specs.Answer.{receptionCode}
+use Rattle.receive_answer.specs.declared.Network.{Network}
+use Rattle.receive_answer.specs.declared.Network.the-variants.{A, B}
 use Rattle.exports.specs.declared.accounts.StepNumbers.{StepNumbers}
 use Rattle.exports.specs.declared.calls.CallNumbers.{CallNumbers}
 
@@ -37,7 +38,7 @@ accountWith smax k jitter mode credit last =
 abbrev pub stepNumbers : ℕ → ℕ → StepNumbers
 stepNumbers code credit = record { code = code; credit = credit }
 
-abbrev pub stepSays : StepTold → StepNumbers
+abbrev pub stepSays : StepReport → StepNumbers
 stepSays w = stepNumbers (w .code) (orZero (w .credit))
 
 pub record StepDone : Type 0 where

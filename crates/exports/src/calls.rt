@@ -1,11 +1,11 @@
 // The frame call.
 ghost use mathlib.Core.Path.{_≡_};
 ghost use Rattle.tables.specs.Rows.{configOf};
-ghost use Rattle.switch.specs.Verdict.{reported};
+ghost use Rattle.switch_verdict.specs.Verdict.{reported};
 ghost use Rattle.switch.specs.Call.{stateOf, callOf, called};
 ghost use Rattle.exports.specs.Numbers.{callNumbers, callSays, callDone, callDoneOf};
 use switch::Ingress;
-use switch::Verdict;
+use switch_verdict::Verdict;
 use tables::Settings;
 
 // A verdict in numbers.

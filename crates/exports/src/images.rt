@@ -2,7 +2,8 @@
 ghost use mathlib.Core.Path.{_≡_};
 ghost use Rattle.tables.specs.Rows.{configOf};
 ghost use Rattle.image_read.specs.Read.{readImage};
-ghost use Rattle.image_load.specs.Loading.{runsOf, loadingOf, loading};
+ghost use Rattle.image_load.specs.Loading.{loadingOf, loading};
+ghost use Rattle.image_fill.specs.Filling.{runsOf};
 ghost use Rattle.image_write.specs.Writing.{writtenOf, writingOf, writing};
 ghost use Rattle.exports.specs.Numbers.{loadedWith};
 use image_read::ImageAnswer;

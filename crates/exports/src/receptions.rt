@@ -1,10 +1,10 @@
 // The receiving end's call.
 ghost use mathlib.Core.Path.{_≡_};
-ghost use Rattle.receive.specs.Lent.{arrivalOf};
+ghost use Rattle.receive_answer.specs.Answer.{arrivalOf};
 ghost use Rattle.receive.specs.Receive.{received};
 ghost use Rattle.exports.specs.Numbers.{networkOf, receptionDone, receptionDoneOf};
-use receive::Arrival;
-use receive::Network;
+use receive_answer::Arrival;
+use receive_answer::Network;
 
 // 0 is network A, any other number network B.
 fn network_of(number: u8) -> Network

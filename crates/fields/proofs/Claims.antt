@@ -10,7 +10,7 @@ use borrow.Author.Tests.{le-leb}
 use Rattle.octets.specs.Numbers.{numberAt}
 use Rattle.octets.specs.Runs.{octetsAt}
 use Rattle.octets.proofs.Parts.{part-front, part-behind, part-whole}
-use Rattle.fields.specs.Fields.{fieldOf, tagAndLength, lengthAt, fieldAt, standsAt}
+use Rattle.fields.specs.Fields.{fieldOf, tagAndLength, lengthAt, standsAt}
 use Rattle.fields.specs.Claims.{FieldReadsBack, FieldSpelled, FieldFigures}
 use Rattle.fields.proofs.Fields.{length-field, field-is, tag-read, length-read, data-read, field-spelled, stands-tag, stands-length}
 

@@ -1,6 +1,6 @@
 -- Laws of tagged fields. Assumes nothing.
 use Prim.Native.Nat.{ℕ, suc, _+_, _^_, _≤_, _<_}
-use mathlib.Core.Bool.{Bool, true, false, not, _&&_}
+use mathlib.Core.Bool.{Bool, true, false, _&&_}
 use mathlib.Core.List.{List, [], _∷_, _++_}
 use mathlib.Core.Path.{_≡_, refl, sym, ap, ap₂, _∙_}
 use native.Mathlib.Nat.{add-zero, zero-add, add-assoc}
@@ -8,14 +8,13 @@ use native.Mathlib.Omega.{arith}
 use lib.Dec.{leb, eqb}
 use lib.ListN.{length, getD, length-append, List·getD-append, List·getD-eq-default}
 use lib.Seq.{getD-append-add}
-use borrow.Author.Tests.{le-leb, lt-leb, leb-true, eq-eqb, ne-eqb, eqb-true, not-true, not-false}
+use borrow.Author.Tests.{le-leb, lt-leb, leb-true, eq-eqb, ne-eqb, eqb-true}
 use Rattle.octets.specs.Numbers.{numberAt, octetsOf}
 use Rattle.octets.specs.Runs.{octetsAt}
 use Rattle.octets.proofs.Numbers.{number-shift, number-octets, number-past, length-octets}
 use Rattle.octets.proofs.Parts.{length-part, getD-part, part-is, part-join, octets-number}
 use Rattle.lists.proofs.Tests.{split, both}
 use Rattle.fields.specs.Fields.{fieldOf, tagAndLength, lengthAt, fieldAt, standsAt}
-use Rattle.fields.specs.declared.Field.{Field}
 
 -- ---- as the code reads it: nothing past the end, else its parts
 module _ (s : List ℕ) (at : ℕ) where

@@ -12,10 +12,11 @@ use Rattle.octets.specs.Runs.{put}
 use Rattle.lists.proofs.Tests.{split}
 use Rattle.octets.proofs.Runs.{put-fits, put-no-room}
 use Rattle.tables.specs.Rows.{accountOctets, linkOctets}
-use Rattle.image_read.specs.Read.{accountFields, imageRefused, readImage}
+use Rattle.image_read.specs.Read.{imageRefused, readImage}
+use Rattle.image_field.specs.Checks.{accountFields}
 use Rattle.image_read.proofs.Accepted.{accepted, refused-zeros}
 use Rattle.image_read.proofs.Claims.{listed, code-listed, not-26, offset-inside}
-use Rattle.image_load.specs.Loading.{Runs, accountRows, linkRows, capacities, filled}
+use Rattle.image_fill.specs.Filling.{Runs, accountRows, linkRows, capacities, filled}
 use Rattle.image_load.specs.Claims.{LoadCodes, RefusedLoadKeeps, LoadRefuses, OffsetsInside, RowsBeyondKept}
 use Rattle.image_load.proofs.Fresh.{runsHeld, by-load, length-account-rows, length-link-rows, length-capacities}
 

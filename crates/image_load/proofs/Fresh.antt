@@ -18,11 +18,13 @@ use Rattle.octets.proofs.Runs.{put-fits}
 use Rattle.terms.specs.Terms.{capacity}
 use Rattle.rows.specs.Rows.{Rows, rowOctets}
 use Rattle.tables.specs.Rows.{accountOctets, linkOctets, accountTable, linkTable, accountIn, linkIn}
-use Rattle.tables.specs.Rules.{linkSound, numberRises, linkGood}
+use Rattle.tables_rules.specs.Rules.{linkSound, numberRises, linkGood}
 use Rattle.tables.proofs.Rows.{terms-same, link-same}
-use Rattle.tables.proofs.Rules.{account-good-same, link-good-same}
-use Rattle.image_read.specs.Read.{accountFields, linkFields, goodAccounts, goodLinks, imageRefused, readImage}
-use Rattle.image_load.specs.Loading.{Runs, Loading, loadingOf, accountRows, linkRows, fullCredit, capacities, filled, runsHold, longEnough, loading}
+use Rattle.tables_rules.proofs.Rules.{account-good-same, link-good-same}
+use Rattle.image_read.specs.Read.{goodAccounts, goodLinks, imageRefused, readImage}
+use Rattle.image_field.specs.Checks.{accountFields, linkFields}
+use Rattle.image_load.specs.Loading.{Loading, loadingOf, runsHold, longEnough, loading}
+use Rattle.image_fill.specs.Filling.{Runs, accountRows, linkRows, fullCredit, capacities, filled}
 use Rattle.image_load.specs.Fresh.{Begins, Fresh, LoadFresh, LoadAccepts, HoldsImage, FreshHolds, FreshSound}
 use Rattle.image_read.proofs.Reading.{few-read}
 use Rattle.image_load.proofs.Loading.{by-loading}

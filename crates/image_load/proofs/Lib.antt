@@ -1,5 +1,4 @@
 pub mod Claims
-pub mod Filling
 pub mod Fresh
 pub mod Loading
 pub mod Prefix

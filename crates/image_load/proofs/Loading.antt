@@ -5,17 +5,22 @@ use mathlib.Core.List.{List}
 use mathlib.Core.Path.{_≡_, refl, sym, ap, _∙_}
 use native.Mathlib.Omega.{arith}
 use lib.Dec.{leb, eqb}
-use lib.ListN.{length}
+use lib.ListN.{length, replicate}
 use borrow.Author.Tests.{le-leb, lt-leb, eq-eqb, ne-eqb, eqb-true, eqb-false}
 use Rattle.lists.proofs.Tests.{split}
 use Rattle.tables.specs.Rows.{accountOctets, linkOctets}
-use Rattle.tables.specs.Rules.{accountGood}
+use Rattle.tables_rules.specs.Rules.{accountGood}
 use Rattle.image_layout.specs.Layout.{maxAccounts, maxLinks}
-use Rattle.image_read.specs.Read.{accountFields, imageRefused, readImage}
+use Rattle.image_read.specs.Read.{imageRefused, readImage}
+use Rattle.image_field.specs.Checks.{accountFields}
 use Rattle.image_read.specs.declared.ImageAnswer.{ImageAnswer}
 use Rattle.image_read.proofs.Accepted.{accepted, refused-zeros, counted-account, good-account}
 use Rattle.image_read.proofs.Reading.{Few, few-read}
-use Rattle.image_load.specs.Loading.{Runs, runsHold, loadAnswer, answerFor}
+use Rattle.image_load.specs.Loading.{runsHold, loadAnswer, answerFor, loadingOf, loading}
+use Rattle.image_fill.specs.Filling.{Runs, accountRows, capacities, filled, linkRows, runsOf}
+use Rattle.octets.specs.Runs.{joined, put}
+use Rattle.octets.proofs.Runs.{put-none}
+use Rattle.image_fill.proofs.Filling.{methodCapacity, capacities-good}
 
 -- ---- runs long enough
 module _ (n m accounts credits lasts links : ℕ) where
@@ -100,3 +105,34 @@ module _ (s : List ℕ) (r : Runs) (q : ImageAnswer) (e : q ≡ answerFor s r) w
       (λ d z. absurd (d z))
       (λ z w i l. let k = accepted s z .accounts-are in good-account s i (counted-account s i (omega arith)))
       (λ z. absurd (omega arith))
+
+-- ---- what loading leaves: nothing where it refuses, else the rows that the image names
+module _ (s : List ℕ) (r : Runs) (q : ImageAnswer) (e : q ≡ answerFor s r) (a c t l : List ℕ)
+    (p1 : a ≡ put (r .accounts) 0 (accountRows s (q .settings .accounts)))
+    (p2 : c ≡ put (r .credits) 0 (joined (methodCapacity s) (q .settings .accounts)))
+    (p3 : t ≡ put (r .lasts) 0 (replicate (q .settings .accounts) 0))
+    (p4 : l ≡ put (r .links) 0 (linkRows s (q .settings .accounts) (q .settings .links))) where
+  keeps : q .settings .accounts ≡ 0 → q .settings .links ≡ 0 → runsOf a c t l ≡ r
+  unfolding accountRows linkRows joined
+  keeps n m =
+      let a0 : a ≡ r .accounts = rw n at p1 ∙ put-none (r .accounts) 0 in
+      let c0 : c ≡ r .credits = rw n at p2 ∙ put-none (r .credits) 0 in
+      let t0 : t ≡ r .lasts = rw n at p3 ∙ put-none (r .lasts) 0 in
+      let l0 : l ≡ r .links = rw m at p4 ∙ put-none (r .links) 0 in
+      rw (a0, c0, t0, l0)
+
+  fills : q .code ≡ 0 → runsOf a c t l ≡ filled s (q .settings .accounts) (q .settings .links) r
+  unfolding filled
+  fills z =
+      let c1 : c ≡ put (r .credits) 0 (capacities (accountFields s) (q .settings .accounts)) =
+      p2 ∙ ap (put (r .credits) 0) (capacities-good s (q .settings .accounts) (loaded-good s r q e z)) in
+      rw (p1, c1, p3, p4)
+
+  pub load-is : loadingOf q (runsOf a c t l) ≡ loading s r
+  unfolding loading
+  load-is =
+      split (eqb (q .code) 0)
+      (λ z. ap (loadingOf q) (fills (eqb-true _ _ z)) ∙ rw e (simp (rw e at z)))
+      (λ z.
+      let d : (q .code ≡ 0 → ⊥) = eqb-false _ _ z in
+      ap (loadingOf q) (keeps (refused-none s r q e d .0) (refused-none s r q e d .1)) ∙ rw e (simp (rw e at z)))

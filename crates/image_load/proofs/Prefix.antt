@@ -15,7 +15,8 @@ use Rattle.image_read.specs.declared.ImageAnswer.{ImageAnswer}
 use Rattle.image_read.proofs.Accepted.{accepted}
 use Rattle.image_read.proofs.Prefix.{prefix-read}
 use Rattle.image_read.proofs.Reading.{few-read}
-use Rattle.image_load.specs.Loading.{Runs, loadingOf, loading}
+use Rattle.image_load.specs.Loading.{loadingOf, loading}
+use Rattle.image_fill.specs.Filling.{Runs}
 use Rattle.image_load.specs.Claims.{PrefixLoad}
 use Rattle.image_load.proofs.Fresh.{by-load}
 

@@ -8,7 +8,8 @@ use lib.ListN.{length, take, drop}
 use Rattle.tables.specs.Rows.{accountOctets, linkOctets}
 use Rattle.image_layout.specs.Layout.{imagePrefix}
 use Rattle.image_read.specs.Read.{imageRefused, readImage}
-use Rattle.image_load.specs.Loading.{Runs, longEnough, loading}
+use Rattle.image_load.specs.Loading.{longEnough, loading}
+use Rattle.image_fill.specs.Filling.{Runs}
 
 -- demand 1: the codes that loading can answer
 abbrev pub LoadCodes : Type 0

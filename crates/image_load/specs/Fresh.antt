@@ -6,10 +6,12 @@ use mathlib.Core.Path.{_≡_}
 use lib.ListN.{length, getD, take, replicate}
 use Rattle.terms.specs.Terms.{capacity}
 use Rattle.tables.specs.Rows.{accountTable, linkTable, accountIn, linkIn}
-use Rattle.tables.specs.Rules.{accountGood, linkRowSound}
+use Rattle.tables_rules.specs.Rules.{accountGood, linkRowSound}
 use Rattle.image_layout.specs.Layout.{maxAccounts, maxLinks}
-use Rattle.image_read.specs.Read.{accountFields, linkFields, readImage}
-use Rattle.image_load.specs.Loading.{Runs, accountRows, linkRows, capacities, longEnough, loading}
+use Rattle.image_read.specs.Read.{readImage}
+use Rattle.image_field.specs.Checks.{accountFields, linkFields}
+use Rattle.image_load.specs.Loading.{longEnough, loading}
+use Rattle.image_fill.specs.Filling.{Runs, accountRows, linkRows, capacities}
 
 -- ys begins with xs, whatever follows
 abbrev pub Begins : List ℕ → List ℕ → Type 0

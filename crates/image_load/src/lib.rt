@@ -1,10 +1,7 @@
-// Loading a configuration image into lent tables, and a reader that holds an image with its offset.
+// Loading a configuration image into lent tables. Every function is total.
 ghost use mathlib.Core.Path.{_≡_};
-ghost use Rattle.image_load.specs.Loading.{runsHold, loadAnswer, runsOf, loadingOf, loading};
-
-mod fill;
-pub mod reader;
-
+ghost use Rattle.image_load.specs.Loading.{runsHold, loadAnswer, loadingOf, loading};
+ghost use Rattle.image_fill.specs.Filling.{runsOf};
 use image_layout::codes;
 use image_read::ImageAnswer;
 
@@ -69,7 +66,7 @@ pub fn load(
         lasts.len(),
         links.len(),
     );
-    fill::fill_runs(
+    image_fill::fill_runs(
         image,
         answer.settings.accounts as u16,
         answer.settings.links as u16,

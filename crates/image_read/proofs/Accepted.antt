@@ -9,14 +9,15 @@ use lib.ListN.{length, getD}
 use borrow.Author.Tests.{leb-true, leb-false, eq-eqb, ne-eqb, eqb-true, eqb-false}
 use Rattle.octets.specs.Numbers.{numberAt}
 use Rattle.lists.proofs.Tests.{split, both}
-use Rattle.tables.specs.Rules.{accountGood, linkGood}
+use Rattle.tables_rules.specs.Rules.{accountGood, linkGood}
 use Rattle.lists.proofs.Leading.{leading-before, leading-fails}
 use Rattle.fields.specs.Fields.{tagAndLength, fieldAt}
 use Rattle.fields.specs.declared.Field.{Field}
 use Rattle.image_layout.specs.Layout.{headTag, accountTag, linkTag, endTag, headOctets, fieldOffset, imageLength, maxAccounts, maxLinks}
-use Rattle.image_read.specs.Read.{fieldCode, headGood, headCode, accountFields, linkFields, inOrder, dataOctets, isFull, valuesGood, tagAt, nextCode, goodField, goodAccounts, goodLinks, readImage}
+use Rattle.image_read.specs.Read.{goodField, goodAccounts, goodLinks, readImage}
+use Rattle.image_field.specs.Checks.{fieldCode, headGood, headCode, accountFields, linkFields, inOrder, dataOctets, isFull, valuesGood, tagAt, nextCode}
 use Rattle.image_read.specs.declared.ImageAnswer.{ImageAnswer}
-use Rattle.image_read.proofs.Checks.{code-short, code-order, code-length, code-cut, code-full, code-bad, full-account, full-link}
+use Rattle.image_field.proofs.Checks.{code-short, code-order, code-length, code-cut, code-full, code-bad, full-account, full-link}
 use Rattle.image_read.proofs.Reading.{by-end, by-reading}
 
 -- ---- a field that passes every check

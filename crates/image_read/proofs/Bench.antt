@@ -5,10 +5,11 @@ use Rattle.octets.specs.Runs.{octetsAt, joined}
 use Rattle.terms.specs.Terms.{termsGood}
 use Rattle.lists.specs.Leading.{leading}
 use Rattle.tables.specs.Rows.{termsAt, linkAt}
-use Rattle.tables.specs.Rules.{portsSound, sizesSound, linkSound, accountGood, numberRises, linkGood}
+use Rattle.tables_rules.specs.Rules.{portsSound, sizesSound, linkSound, accountGood, numberRises, linkGood}
 use Rattle.fields.specs.Fields.{fieldOf}
 use Rattle.image_layout.specs.Layout.{imageOf, fieldOffset, constantGood}
-use Rattle.image_read.specs.Read.{fieldCode, headGood, headCode, inOrder, dataOctets, isFull, valuesGood, nextCode, goodField, goodAccounts, goodLinks, readEnd, readImage}
+use Rattle.image_read.specs.Read.{goodField, goodAccounts, goodLinks, readEnd, readImage}
+use Rattle.image_field.specs.Checks.{fieldCode, headGood, headCode, inOrder, dataOctets, isFull, valuesGood, nextCode}
 use Rattle.image_read.specs.Bench.{ImagePReads}
 
 pub image-p-reads : ImagePReads

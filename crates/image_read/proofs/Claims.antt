@@ -14,7 +14,8 @@ use Rattle.lists.proofs.Leading.{leading-fails}
 use Rattle.fields.specs.Fields.{tagAndLength, fieldAt}
 use Rattle.fields.specs.declared.Field.{Field}
 use Rattle.image_layout.specs.Layout.{headTag, accountTag, linkTag, headSize, accountSize, linkSize, headOctets, fieldOffset, imageLength, maxAccounts, maxLinks, longestImage}
-use Rattle.image_read.specs.Read.{fieldCode, headGood, headCode, inOrder, dataOctets, isFull, valuesGood, tagAt, nextCode, goodField, goodAccounts, goodLinks, readEnd, readImage}
+use Rattle.image_read.specs.Read.{goodField, goodAccounts, goodLinks, readEnd, readImage}
+use Rattle.image_field.specs.Checks.{fieldCode, headGood, headCode, inOrder, dataOctets, isFull, valuesGood, tagAt, nextCode}
 use Rattle.image_read.specs.Claims.{ReadCodes, AcceptedEnds, walked, ReadFieldByField}
 use Rattle.image_read.proofs.Accepted.{Accepted, accepted, head-passes, good-passes, link-first, counted-account, counted-link, some-accounts, some-links, end-tag}
 use Rattle.image_read.proofs.Reading.{few-accounts, few-links, few-read, by-end, by-reading}

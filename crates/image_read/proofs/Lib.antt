@@ -1,6 +1,5 @@
 pub mod Accepted
 pub mod Bench
-pub mod Checks
 pub mod Claims
 pub mod Passing
 pub mod Prefix

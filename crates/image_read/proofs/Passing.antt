@@ -10,13 +10,14 @@ use borrow.Author.Tests.{le-leb, lt-leb, eq-eqb, ne-eqb, eqb-true, not-true, not
 use Rattle.octets.specs.Numbers.{numberAt}
 use Rattle.lists.proofs.Tests.{split, both}
 use Rattle.tables.specs.Rows.{accountOctets, linkOctets, settingsOf}
-use Rattle.tables.specs.Rules.{accountGood, linkGood}
+use Rattle.tables_rules.specs.Rules.{accountGood, linkGood}
 use Rattle.lists.proofs.Leading.{leading-zero, leading-stop, leading-is}
 use Rattle.fields.specs.Fields.{tagAndLength, lengthAt, fieldAt, standsAt}
 use Rattle.fields.proofs.Fields.{stands-by, stands-tag, stands-length, stands-whole}
 use Rattle.image_layout.specs.Layout.{headTag, accountTag, linkTag, endTag, edition, headOctets, headSize, fieldOffset, imageLength, maxAccounts, maxLinks, constantGood}
-use Rattle.image_read.specs.Read.{headGood, headCode, accountFields, linkFields, inOrder, dataOctets, isFull, valuesGood, codeByTag, tagAt, nextCode, goodField, goodAccounts, goodLinks, readImage}
-use Rattle.image_read.proofs.Checks.{code-good, order-link, order-end}
+use Rattle.image_read.specs.Read.{goodField, goodAccounts, goodLinks, readImage}
+use Rattle.image_field.specs.Checks.{headGood, headCode, accountFields, linkFields, inOrder, dataOctets, isFull, valuesGood, codeByTag, tagAt, nextCode}
+use Rattle.image_field.proofs.Checks.{code-good, order-link, order-end}
 use Rattle.image_read.proofs.Accepted.{good-by, good-tag, good-code, good-passes, link-first}
 use Rattle.image_read.proofs.Reading.{end-accepted, head-passed}
 

@@ -15,12 +15,13 @@ use Rattle.octets.proofs.Numbers.{number-shift}
 use Rattle.tables.specs.Rows.{accountOctets, linkOctets, accountIn, linkIn}
 use Rattle.lists.proofs.Leading.{leading-same}
 use Rattle.tables.proofs.Rows.{terms-same, link-same}
-use Rattle.tables.proofs.Rules.{account-good-same, link-good-same}
+use Rattle.tables_rules.proofs.Rules.{account-good-same, link-good-same}
 use Rattle.fields.specs.Fields.{tagAndLength, fieldAt}
 use Rattle.image_layout.specs.Layout.{headTag, accountTag, linkTag, headOctets, headSize, accountSize, linkSize, fieldOffset, imageLength, maxAccounts, maxLinks, imagePrefix}
-use Rattle.image_read.specs.Read.{fieldCode, headGood, headCode, accountFields, linkFields, inOrder, dataOctets, isFull, valuesGood, tagAt, nextCode, goodField, goodAccounts, goodLinks, readEnd, readImage}
+use Rattle.image_read.specs.Read.{goodField, goodAccounts, goodLinks, readEnd, readImage}
+use Rattle.image_field.specs.Checks.{fieldCode, headGood, headCode, accountFields, linkFields, inOrder, dataOctets, isFull, valuesGood, tagAt, nextCode}
 use Rattle.image_read.specs.Claims.{PrefixRead}
-use Rattle.image_read.proofs.Checks.{octets-account, octets-link, octets-end}
+use Rattle.image_field.proofs.Checks.{octets-account, octets-link, octets-end}
 use Rattle.image_read.proofs.Reading.{few-accounts, few-links, end-refused, end-surplus, end-accepted, head-refused, head-passed, by-end, by-reading}
 
 -- no field's data are longer than a link's

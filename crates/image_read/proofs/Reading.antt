@@ -11,7 +11,8 @@ use Rattle.octets.specs.Numbers.{numberAt}
 use Rattle.lists.proofs.Tests.{split}
 use Rattle.lists.proofs.Leading.{leading-high}
 use Rattle.image_layout.specs.Layout.{accountTag, linkTag, fieldOffset, dataOffset, imageLength, maxAccounts, maxLinks}
-use Rattle.image_read.specs.Read.{headCode, nextCode, goodField, goodAccounts, goodLinks, imageRefused, readEnd, readImage}
+use Rattle.image_read.specs.Read.{goodField, goodAccounts, goodLinks, imageRefused, readEnd, readImage}
+use Rattle.image_field.specs.Checks.{headCode, nextCode}
 use Rattle.image_read.specs.declared.ImageAnswer.{ImageAnswer}
 
 -- ---- counts are within the limits

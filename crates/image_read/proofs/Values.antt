@@ -13,12 +13,12 @@ use Rattle.fields.proofs.Fields.{stands-whole}
 use Rattle.terms.specs.Terms.{termsGood}
 use Rattle.terms.specs.declared.Terms.{Terms}
 use Rattle.tables.specs.Rows.{accountOctets, linkOctets, termsAt, linkAt, accountIn, linkIn}
-use Rattle.tables.specs.Rules.{accountGood, numberRises}
+use Rattle.tables_rules.specs.Rules.{accountGood, numberRises}
 use Rattle.tables.specs.declared.Link.{Link}
 use Rattle.tables.proofs.Rows.{terms-within, link-within}
 use Rattle.image_layout.specs.Layout.{fieldOffset, dataOffset}
 use Rattle.image_layout.proofs.Offsets.{account-offset, link-offset}
-use Rattle.image_read.specs.Read.{accountFields, linkFields}
+use Rattle.image_field.specs.Checks.{accountFields, linkFields}
 
 -- the data of a field that stands are there
 pub inside : (s : List ℕ) (at tag size : ℕ) (b : Bool) → b ≡ standsAt s at tag size → not b ≡ false → at + (tagAndLength + size) ≤ length s

@@ -7,7 +7,8 @@ use Rattle.terms.specs.declared.Terms.{Terms}
 use Rattle.tables.specs.Rows.{Config, accountIn, linkIn, settingsOf}
 use Rattle.tables.specs.declared.Link.{Link}
 use Rattle.image_layout.specs.Layout.{imageOf}
-use Rattle.image_read.specs.Read.{accountFields, linkFields, readImage}
+use Rattle.image_read.specs.Read.{readImage}
+use Rattle.image_field.specs.Checks.{accountFields, linkFields}
 use Rattle.image_read.specs.declared.ImageAnswer.{ImageAnswer}
 
 abbrev pub accountP : List ℕ

@@ -6,7 +6,8 @@ use mathlib.Core.List.{List, [], _∷_, List·Memᴰ}
 use lib.ListN.{length, take}
 use Rattle.lists.specs.Choice.{if_then_else_}
 use Rattle.image_layout.specs.Layout.{accountTag, linkTag, endTag, imageLength, maxAccounts, maxLinks, longestImage, imagePrefix}
-use Rattle.image_read.specs.Read.{headCode, tagAt, goodField, imageRefused, readEnd, readImage}
+use Rattle.image_read.specs.Read.{goodField, imageRefused, readEnd, readImage}
+use Rattle.image_field.specs.Checks.{headCode, tagAt}
 use Rattle.image_read.specs.declared.ImageAnswer.{ImageAnswer}
 
 -- demand 1: the codes that reading can answer

@@ -42,7 +42,7 @@ pub(crate) fn count_links(image: &[u8], accounts: u16) -> u16
 pub(crate) fn read_end(image: &[u8], accounts: u16, links: u16) -> ImageAnswer
     ensures { λ r. ⌜ r ≡ readEnd (now (image .entry)) accounts links ⌝ }
 {
-    let code = field::next_code(image, accounts, links);
+    let code = image_field::next_code(image, accounts, links);
     if code != 0 {
         return refused(code, image_layout::field_offset(accounts, links));
     }

@@ -35,7 +35,7 @@ pub fn refused(code: u8, offset: usize) -> ImageAnswer
 pub fn check(image: &[u8]) -> ImageAnswer
     ensures { λ r. ⌜ r ≡ readImage (now (image .entry)) ⌝ }
 {
-    let code = field::head_code(image);
+    let code = image_field::head_code(image);
     if code != 0 {
         return refused(code, 0);
     }

@@ -16,14 +16,16 @@ use Rattle.terms.specs.Terms.{capacity}
 use Rattle.terms.specs.declared.Terms.{Terms}
 use Rattle.rows.specs.Rows.{rowOctets}
 use Rattle.tables.specs.Rows.{Config, accountOctets, linkOctets, accountTable, linkTable, accountIn, linkIn, configOf, settingsOf}
-use Rattle.tables.specs.Rules.{accountGood, linkGood}
+use Rattle.tables_rules.specs.Rules.{accountGood, linkGood}
 use Rattle.lists.proofs.Leading.{leading-before, leading-is}
 use Rattle.tables.proofs.Rows.{terms-part, link-part}
-use Rattle.tables.proofs.Rules.{account-good-same, link-good-same}
+use Rattle.tables_rules.proofs.Rules.{account-good-same, link-good-same}
 use Rattle.fields.specs.Fields.{tagAndLength, fieldOf, standsAt}
 use Rattle.image_layout.specs.Layout.{headTag, accountTag, linkTag, endTag, edition, headOctets, headSize, accountSize, linkSize, fieldOffset, dataOffset, imageLength, maxAccounts, maxLinks, constantGood, imageOf}
-use Rattle.image_read.specs.Read.{headCode, accountFields, linkFields, dataOctets, tagAt, nextCode, goodField, readImage}
-use Rattle.image_load.specs.Loading.{Runs, runsOf, loadingOf, accountRows, linkRows, capacities, filled, runsHold, loading}
+use Rattle.image_read.specs.Read.{goodField, readImage}
+use Rattle.image_field.specs.Checks.{headCode, accountFields, linkFields, dataOctets, tagAt, nextCode}
+use Rattle.image_load.specs.Loading.{loadingOf, runsHold, loading}
+use Rattle.image_fill.specs.Filling.{Runs, runsOf, accountRows, linkRows, capacities, filled}
 use Rattle.image_load.specs.Fresh.{Fresh, HoldsImage}
 use Rattle.image_read.specs.declared.ImageAnswer.{ImageAnswer}
 use Rattle.image_layout.proofs.Offsets.{account-offset, link-offset}

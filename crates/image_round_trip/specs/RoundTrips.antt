@@ -9,7 +9,8 @@ use Rattle.octets.specs.Runs.{put}
 use Rattle.tables.specs.Rows.{Config, accountOctets, linkOctets, accountTable, configFor, settingsOf}
 use Rattle.image_layout.specs.Layout.{imageOf}
 use Rattle.image_read.specs.Read.{readImage}
-use Rattle.image_load.specs.Loading.{Runs, runsOf, Loading, loadingOf, accountRows, linkRows, capacities, longEnough, loading}
+use Rattle.image_load.specs.Loading.{Loading, loadingOf, longEnough, loading}
+use Rattle.image_fill.specs.Filling.{Runs, runsOf, accountRows, linkRows, capacities}
 use Rattle.image_write.specs.Writing.{countsGood, valueAnswer, writtenOf, writingOf, writing}
 
 -- ---- the octets that are accepted are the images of good tables, and no others

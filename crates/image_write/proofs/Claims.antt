@@ -11,7 +11,7 @@ use Rattle.lists.specs.Choice.{if_then_else_}
 use Rattle.octets.specs.Runs.{put}
 use Rattle.octets.proofs.Runs.{put-fits}
 use Rattle.tables.specs.Rows.{Config, accountTable, linkTable}
-use Rattle.tables.specs.Rules.{accountGood, linkGood}
+use Rattle.tables_rules.specs.Rules.{accountGood, linkGood}
 use Rattle.lists.proofs.Leading.{leading-is}
 use Rattle.image_layout.specs.Layout.{fieldOffset, imageLength, imageOf}
 use Rattle.image_write.specs.Writing.{countsGood, badAccount, badLink, writtenOf, valueAnswer, writeAnswer, Writing, writingOf, writing}

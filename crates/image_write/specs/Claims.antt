@@ -6,7 +6,7 @@ use mathlib.Core.List.{List, [], _∷_, _++_, List·Memᴰ}
 use mathlib.Core.Path.{_≡_}
 use lib.ListN.{length, drop}
 use Rattle.tables.specs.Rows.{Config, accountTable, linkTable}
-use Rattle.tables.specs.Rules.{accountGood, linkGood}
+use Rattle.tables_rules.specs.Rules.{accountGood, linkGood}
 use Rattle.image_layout.specs.Layout.{fieldOffset, imageLength, constantGood, imageOf}
 use Rattle.image_write.specs.Writing.{countsGood, writtenOf, valueAnswer, writing}
 

@@ -8,7 +8,7 @@ use Rattle.lists.specs.Choice.{if_then_else_}
 use Rattle.octets.specs.Runs.{put}
 use Rattle.lists.specs.Leading.{leading}
 use Rattle.tables.specs.Rows.{Config, accountOctets, linkOctets, accountTable, linkTable}
-use Rattle.tables.specs.Rules.{accountGood, linkGood}
+use Rattle.tables_rules.specs.Rules.{accountGood, linkGood}
 use Rattle.image_layout.specs.Layout.{maxAccounts, maxLinks, fieldOffset, imageLength, constantGood, imageOf}
 use Rattle.image_write.specs.declared.Written.{Written}
 

@@ -2,7 +2,7 @@
 ghost use mathlib.Core.Path.{_≡_};
 ghost use Rattle.rows.specs.Rows.{spacing};
 ghost use Rattle.tables.specs.Rows.{accountOctets, linkOctets, accountTable, linkTable, configOf};
-ghost use Rattle.tables.specs.Rules.{accountGood, linkGood};
+ghost use Rattle.tables_rules.specs.Rules.{accountGood, linkGood};
 ghost use Rattle.lists.specs.Leading.{leading};
 ghost use Rattle.image_write.specs.Writing.{valueAnswer};
 use super::Written;
@@ -34,7 +34,7 @@ fn bad_account(accounts: &[u8], n: u16) -> u16
 {
     let mut i: u16 = 0;
     while i < n {
-        if !tables::account_good(accounts, account_rows(), i) {
+        if !tables_rules::account_good(accounts, account_rows(), i) {
             return i;
         }
         i += 1;
@@ -48,7 +48,7 @@ fn bad_link(accounts: &[u8], n: u16, links: &[u8], m: u16) -> u16
 {
     let mut j: u16 = 0;
     while j < m {
-        if !tables::link_good(accounts, account_rows(), n, links, link_rows(), j) {
+        if !tables_rules::link_good(accounts, account_rows(), n, links, link_rows(), j) {
             return j;
         }
         j += 1;

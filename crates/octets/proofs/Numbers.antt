@@ -3,8 +3,7 @@ use Prim.Native.Nat.{ℕ, zero, suc, _+_, _*_, _/_, _%_, _^_, _≤_, _<_}
 use mathlib.Core.Path.{_≡_, refl, sym, ap, ap₂, _∙_}
 use mathlib.Core.List.{List, [], _∷_, _++_, append-assoc, append-nil}
 use native.Mathlib.Omega.{arith}
-use native.Mathlib.Nat.{add-zero, zero-add, add-suc, add-assoc, add-mul, mul-assoc, mul-one, pow-zero, pow-suc, pow-succ', mul-le-mul-right}
-use native.Mathlib.Nat.{div-add-mod', div-lt-iff-lt-mul, mul-add-div-right, mul-add-mod-self-right, div-one, div-div-eq-div-mul}
+use native.Mathlib.Nat.{add-zero, zero-add, add-suc, add-assoc, add-mul, mul-assoc, mul-one, pow-zero, pow-suc, pow-succ', mul-le-mul-right, div-add-mod', div-lt-iff-lt-mul, mul-add-div-right, mul-add-mod-self-right, div-one, div-div-eq-div-mul}
 use lib.ListN.{length, getD, length-append, List·getD-eq-default, List·getD-append}
 use lib.Seq.{getD-at}
 use Rattle.octets.specs.Numbers.{numberAt, octetsOf}

@@ -1,7 +1,7 @@
 -- What holds of one call, by the row found and the answer. Assumes nothing.
 use Prim.Native.Nat.{ℕ, _+_, _*_, _≤_, _<_}
 use mathlib.Core.Bool.{false}
-use mathlib.Core.List.{List, [], _∷_, List·Memᴰ, List·Memᴰ·head, List·Memᴰ·tail}
+use mathlib.Core.List.{List}
 use mathlib.Core.Logic.{_⊎_, inl, inr}
 use mathlib.Core.Option.{some}
 use mathlib.Core.Path.{_≡_, refl, sym, ap, _∙_, subst}
@@ -10,49 +10,24 @@ use native.Mathlib.Omega.{arith}
 use lib.ListN.{length}
 use lib.Dec.{eqb}
 use borrow.Author.Tests.{eqb-true, eqb-false}
-use Rattle.lists.specs.Choice.{if_then_else_}
 use Rattle.lists.proofs.Tests.{split}
 use Rattle.octets.specs.Numbers.{numberAt}
 use Rattle.rows.specs.Rows.{tableOf, rowNumber, foundIn}
 use Rattle.rows.specs.declared.Found.the-variants.{At, Nowhere}
 use Rattle.rows.proofs.Finding.{first-found, none-found, found-same}
 use Rattle.receive_sequence.specs.Sequence.{numberCount}
-use Rattle.receive.specs.declared.Arrival.{Arrival}
-use Rattle.receive.specs.declared.Reception.{Reception}
-use Rattle.receive.specs.declared.Reception.the-variants.{Delivered, Copy, OutOfSequence, UnknownLink, Late}
-use Rattle.receive.specs.Lent.{other, skewRowOctets, skewIn, memoryWords, rowsInUse, rowFound, timeWord, numberWord, awaitingWord, deliveredWord, latestTime, lastNumber, awaiting, noted}
-use Rattle.receive.specs.Receive.{receptionCode, taken, memoryAfter, answerBy, received}
-use Rattle.receive.specs.Claims.{AnswersApart, PossibleAnswers, RefusedKeeps, UnknownExactly, RowIsFirst, RowIsNowhere, SkewRowsBeyondUnread, OnlyMemory, ChangesOwnMemory, TimeAndNumberStored, SameMemory, ByOwnMemory}
-use Rattle.receive.proofs.Answering.{by-reception, refused-leaves, call-at, call-nowhere, by-row}
+use Rattle.receive_answer.specs.declared.Arrival.{Arrival}
+use Rattle.receive_answer.specs.declared.Reception.{Reception}
+use Rattle.receive_answer.specs.declared.Reception.the-variants.{Delivered, Copy, OutOfSequence, UnknownLink, Late}
+use Rattle.receive.specs.Lent.{skewRowOctets, skewIn, memoryWords, rowsInUse, rowFound, timeWord, numberWord, awaitingWord, deliveredWord, latestTime, lastNumber, awaiting, noted}
+use Rattle.receive_answer.specs.Answer.{other, receptionCode, taken}
+use Rattle.receive.specs.Receive.{memoryAfter, answerBy, received}
+use Rattle.receive.specs.Claims.{PossibleAnswers, RefusedKeeps, UnknownExactly, RowIsFirst, RowIsNowhere, SkewRowsBeyondUnread, OnlyMemory, ChangesOwnMemory, TimeAndNumberStored, SameMemory, ByOwnMemory}
+use Rattle.receive.proofs.Answering.{refused-leaves, call-at, call-nowhere, by-row}
+use Rattle.receive_answer.proofs.Answer.{by-reception}
+use Rattle.receive_answer.proofs.Claims.{possible}
 use Rattle.receive.proofs.Kept.{kept-left, noted-time, noted-number, met-time, met-number, delivered-time, delivered-number}
 use Rattle.receive.proofs.Words.{number-inside, awaiting-inside, delivered-inside, memory-in-run, length-store, word-same, word-other, outside-before, outside-after}
-
--- ---- answers by their numbers
-heard : ℕ → Reception
-heard n =
-    if eqb n 0 then Delivered
-    else if eqb n 4 then UnknownLink
-    else if eqb n 8 then Late
-    else if eqb n 30 then Copy
-    else OutOfSequence
-
-heard-reported : (a : Reception) → heard (receptionCode a) ≡ a
-unfolding heard
-heard-reported Delivered = refl
-heard-reported Copy = refl
-heard-reported OutOfSequence = refl
-heard-reported UnknownLink = refl
-heard-reported Late = refl
-
-pub answers-apart : AnswersApart
-answers-apart a b e = sym (heard-reported a) ∙ ap heard e ∙ heard-reported b
-
-possible : (a : Reception) → List·Memᴰ (receptionCode a) (0 ∷ 30 ∷ 31 ∷ 4 ∷ 8 ∷ [])
-possible Delivered = List·Memᴰ·head refl
-possible Copy = List·Memᴰ·tail (List·Memᴰ·head refl)
-possible OutOfSequence = List·Memᴰ·tail (List·Memᴰ·tail (List·Memᴰ·head refl))
-possible UnknownLink = List·Memᴰ·tail (List·Memᴰ·tail (List·Memᴰ·tail (List·Memᴰ·head refl)))
-possible Late = List·Memᴰ·tail (List·Memᴰ·tail (List·Memᴰ·tail (List·Memᴰ·tail (List·Memᴰ·head refl))))
 
 pub possible-answers : PossibleAnswers
 possible-answers rows r f = possible (received rows r f .says)

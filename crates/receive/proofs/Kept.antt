@@ -5,16 +5,17 @@ use mathlib.Core.Option.{none, some}
 use mathlib.Core.Path.{_≡_, refl, ap, ap₂, _∙_}
 use native.Mathlib.Omega.{arith}
 use lib.ListN.{length}
-use Rattle.receive.specs.declared.Arrival.{Arrival}
-use Rattle.receive.specs.declared.Network.{Network}
-use Rattle.receive.specs.declared.Reception.{Reception}
-use Rattle.receive.specs.declared.Reception.the-variants.{Delivered, Copy, OutOfSequence, UnknownLink, Late}
-use Rattle.receive.specs.Lent.{index, other, memoryWords, timeWord, numberWord, awaitingWord, deliveredWord, word, store, deliveryOf, latestTime, lastNumber, awaiting, noted, met, delivered}
+use Rattle.receive_answer.specs.declared.Arrival.{Arrival}
+use Rattle.receive_answer.specs.declared.Network.{Network}
+use Rattle.receive_answer.specs.declared.Reception.{Reception}
+use Rattle.receive_answer.specs.declared.Reception.the-variants.{Delivered, Copy, OutOfSequence, UnknownLink, Late}
+use Rattle.receive.specs.Lent.{index, memoryWords, timeWord, numberWord, awaitingWord, deliveredWord, word, store, latestTime, lastNumber, awaiting, noted, met, delivered}
+use Rattle.receive_answer.specs.Answer.{other, deliveryOf}
 use Rattle.receive.specs.Receive.{memoryAfter}
 use Rattle.receive.specs.Claims.{SameMemory}
 use Rattle.receive_sequence.specs.Sequence.{numberCount, numberOf}
 use Rattle.receive_sequence.proofs.Passing.{number-some}
-use Rattle.receive.proofs.Answering.{delivery-none, delivery-some}
+use Rattle.receive_answer.proofs.Answer.{delivery-none, delivery-some}
 use Rattle.receive.proofs.Words.{index-low, number-inside, awaiting-inside, delivered-inside, length-store, word-same, word-other, word-beside}
 
 -- ---- whatever every store inside a record keeps, an answer keeps; of two records at once

@@ -7,8 +7,8 @@ use native.Mathlib.Omega.{arith}
 use lib.ListN.{length, getD, set, length-set}
 use lib.Seq.{getD-set-same, getD-set-other}
 use Rattle.rows.proofs.Rows.{row-inside}
-use Rattle.receive.specs.declared.Network.{Network}
-use Rattle.receive.specs.declared.Network.the-variants.{A, B}
+use Rattle.receive_answer.specs.declared.Network.{Network}
+use Rattle.receive_answer.specs.declared.Network.the-variants.{A, B}
 use Rattle.receive.specs.Lent.{index, skewRowOctets, memoryWords, rowsInUse, numberWord, awaitingWord, word, store}
 
 -- ---- offsets lie in a record

@@ -7,16 +7,12 @@ use mathlib.Core.Path.{_≡_}
 use lib.ListN.{length, getD}
 use Rattle.octets.specs.Numbers.{numberAt}
 use Rattle.rows.specs.declared.Found.the-variants.{At, Nowhere}
-use Rattle.receive.specs.declared.Arrival.{Arrival}
-use Rattle.receive.specs.declared.Reception.{Reception}
-use Rattle.receive.specs.declared.Reception.the-variants.{UnknownLink, Late}
+use Rattle.receive_answer.specs.declared.Arrival.{Arrival}
+use Rattle.receive_answer.specs.declared.Reception.the-variants.{UnknownLink, Late}
 use Rattle.receive_sequence.specs.Sequence.{numberCount}
 use Rattle.receive.specs.Lent.{skewRowOctets, skewIn, memoryWords, rowsInUse, rowFound, word, latestTime, lastNumber}
-use Rattle.receive.specs.Receive.{receptionCode, received}
-
--- two answers with the same number are the same
-abbrev pub AnswersApart : Type 0
-AnswersApart = (a b : Reception) → receptionCode a ≡ receptionCode b → a ≡ b
+use Rattle.receive.specs.Receive.{received}
+use Rattle.receive_answer.specs.Answer.{receptionCode}
 
 -- demand 1: delivered, copy, out of sequence, 4 and 8, and no other
 abbrev pub PossibleAnswers : Type 0

@@ -2,30 +2,21 @@
 -- papers leave their form open; it is stated here.
 use Prim.Native.Nat.{ℕ, _+_, _*_, _/_}
 use mathlib.Core.List.{List}
-use mathlib.Core.Option.{Option, none, some}
+use mathlib.Core.Option.{Option}
 use lib.ListN.{length, getD, set}
-use lib.Dec.{eqb}
-use Rattle.lists.specs.Choice.{if_then_else_}
 use Rattle.octets.specs.Numbers.{numberAt}
 use Rattle.receive_sequence.specs.Sequence.{numberOf}
+use Rattle.receive_answer.specs.Answer.{deliveryOf}
 use Rattle.rows.specs.Rows.{tableOf, inUse, foundIn}
 use Rattle.rows.specs.declared.Found.{Found}
-use Rattle.receive.specs.declared.Arrival.{Arrival}
-use Rattle.receive.specs.declared.Network.{Network}
-use Rattle.receive.specs.declared.Network.the-variants.{A, B}
+use Rattle.receive_answer.specs.declared.Arrival.{Arrival}
+use Rattle.receive_answer.specs.declared.Network.{Network}
+use Rattle.receive_answer.specs.declared.Network.the-variants.{A, B}
 
 -- ---- networks
 abbrev pub index : Network → ℕ
 index A = 0
 index B = 1
-
-abbrev pub other : Network → Network
-other A = B
-other B = A
-
--- a frame that comes in: its link, its network, its sequence number, its time in us
-abbrev pub arrivalOf : ℕ → Network → ℕ → ℕ → Arrival
-arrivalOf link x n t = record { link = link; network = x; number = n; time = t }
 
 -- ---- rows: number (2), SkewMax in us (4)
 abbrev pub skewRowOctets : ℕ
@@ -66,10 +57,6 @@ awaitingWord x n = 3 + 512 * index x + 2 * n
 
 abbrev pub deliveredWord : Network → ℕ → ℕ
 deliveredWord x n = 4 + 512 * index x + 2 * n
-
--- a delivery that awaits its copy has its first word other than 0; the second is its time
-unfoldable pub deliveryOf : ℕ → ℕ → Option ℕ
-deliveryOf waits time = if eqb waits 0 then none else some time
 
 -- ---- what record j says: the link's last time, the last number received on a network, the time of the delivery of n on a network
 -- that awaits its copy

@@ -5,10 +5,10 @@ ghost use Prim.Native.Nat.{_+_, _*_, _≤_, _<_};
 ghost use lib.ListN.{length};
 ghost use Rattle.receive.specs.Lent.{index, memoryWords, numberWord, awaitingWord, word, store, noted, met, delivered};
 ghost use Rattle.receive.specs.Receive.{memoryAfter};
-use super::Arrival;
 use super::MEMORY_WORDS;
-use super::Network;
-use super::Reception;
+use receive_answer::Arrival;
+use receive_answer::Network;
+use receive_answer::Reception;
 
 // The link's last time.
 pub(crate) const TIME_WORD: usize = 0;
@@ -92,7 +92,7 @@ pub(crate) fn store_answer(memory: &mut [u64], row: usize, frame: Arrival, answe
     note(memory, row, frame);
     let network = frame.network;
     match answer {
-        Reception::Copy => meet(memory, row, super::other(network), frame.number),
+        Reception::Copy => meet(memory, row, receive_answer::other(network), frame.number),
         Reception::Delivered => await_copy(memory, row, frame),
         Reception::OutOfSequence => (),
         Reception::UnknownLink => (),

@@ -1,6 +1,7 @@
 -- Request Q-1 whole. Assumes nothing.
 use Rattle.lists.proofs.Claims.{picked-answers}
-use Rattle.receive.proofs.Claims.{possible-answers, answers-apart, refused-keeps, unknown-exactly, row-is-first, row-is-nowhere, rows-beyond, changes-own-memory, time-and-number-stored, by-own-memory}
+use Rattle.receive.proofs.Claims.{possible-answers, refused-keeps, unknown-exactly, row-is-first, row-is-nowhere, rows-beyond, changes-own-memory, time-and-number-stored, by-own-memory}
+use Rattle.receive_answer.proofs.Claims.{answers-apart}
 use Rattle.receive_sequence.proofs.Claims.{pass-table}
 use Rattle.receive_history.specs.Claims.{ReceivingEnd}
 use Rattle.receive_history.proofs.Counts.{one-copy-each}

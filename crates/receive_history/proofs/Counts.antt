@@ -13,12 +13,12 @@ use Rattle.lists.proofs.Lists.{only-none, only-take, only-drop}
 use Rattle.lists.proofs.Tests.{split}
 use Rattle.rows.specs.declared.Found.{Found}
 use Rattle.rows.specs.declared.Found.the-variants.{At, Nowhere}
-use Rattle.receive.specs.declared.Arrival.{Arrival}
-use Rattle.receive.specs.declared.Network.{Network}
-use Rattle.receive.specs.declared.Reception.{Reception}
-use Rattle.receive.specs.declared.Reception.the-variants.{Delivered, Copy, OutOfSequence, UnknownLink, Late}
-use Rattle.receive.specs.Lent.{other, skewIn, rowFound}
-use Rattle.receive.specs.Receive.{receptionCode}
+use Rattle.receive_answer.specs.declared.Arrival.{Arrival}
+use Rattle.receive_answer.specs.declared.Network.{Network}
+use Rattle.receive_answer.specs.declared.Reception.{Reception}
+use Rattle.receive_answer.specs.declared.Reception.the-variants.{Delivered, Copy, OutOfSequence, UnknownLink, Late}
+use Rattle.receive.specs.Lent.{skewIn, rowFound}
+use Rattle.receive_answer.specs.Answer.{other, receptionCode}
 use Rattle.receive_history.specs.History.{Answered, answeredOf, onLink}
 use Rattle.receive_history.specs.Rule.{receivedOn, ofLink, numbered, unmet, ruleAnswer, ruleOfFrames}
 use Rattle.receive_history.specs.Words.{isDelivered, isCopy, deliveries, copies, OneCopyEach}

@@ -13,8 +13,8 @@ use Rattle.octets.proofs.Parts.{part-same, part-take}
 use Rattle.rows.specs.declared.Found.{Found}
 use Rattle.rows.specs.declared.Found.the-variants.{At, Nowhere}
 use Rattle.receive_sequence.specs.Sequence.{numberCount}
-use Rattle.receive.specs.declared.Arrival.{Arrival}
-use Rattle.receive.specs.declared.Reception.the-variants.{UnknownLink}
+use Rattle.receive_answer.specs.declared.Arrival.{Arrival}
+use Rattle.receive_answer.specs.declared.Reception.the-variants.{UnknownLink}
 use Rattle.receive.specs.Lent.{skewIn, memoryWords, rowFound, word}
 use Rattle.receive.specs.Receive.{Received, answerBy, received}
 use Rattle.receive.specs.Claims.{SameMemory}

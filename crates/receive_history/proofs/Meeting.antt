@@ -1,6 +1,6 @@
 -- Copies and their deliveries, in words. Assumes nothing.
 use Prim.Native.Nat.{ℕ, _+_, _-_, _≤_, _<_}
-use mathlib.Core.Bool.{Bool, true, false, not, _&&_, false≢true}
+use mathlib.Core.Bool.{true, false, not, _&&_, false≢true}
 use mathlib.Core.List.{List, [], _∷_, _++_, head-eq-of-cons-eq, tail-eq-of-cons-eq, List·Memᴰ, List·Memᴰ·head, List·Memᴰ·tail, List·Memᴰ·not-nil, Memᴰ·append-right}
 use mathlib.Core.Logic.{_⊎_, inl, inr, ⊎-elim}
 use mathlib.Core.Option.{Option, none, some}
@@ -11,16 +11,15 @@ use lib.Dec.{leb}
 use borrow.Author.Tests.{leb-true, le-leb}
 use Rattle.lists.proofs.Tests.{split, both}
 use Rattle.rows.specs.declared.Found.the-variants.{At, Nowhere}
-use Rattle.receive.specs.declared.Arrival.{Arrival}
-use Rattle.receive.specs.declared.Network.{Network}
-use Rattle.receive.specs.declared.Reception.{Reception}
-use Rattle.receive.specs.declared.Reception.the-variants.{Delivered, Copy, OutOfSequence, UnknownLink, Late}
-use Rattle.receive_sequence.specs.Sequence.{passes}
-use Rattle.receive.specs.Lent.{other, skewIn, rowFound}
-use Rattle.receive.specs.Receive.{receptionCode, inSkew}
-use Rattle.receive_sequence.specs.Sequence.{numberCount}
-use Rattle.receive.proofs.Answering.{reception-late, reception-out, by-reception}
-use Rattle.receive_history.specs.History.{Answered, answeredOf, frameAnswers, Empty, Octets}
+use Rattle.receive_answer.specs.declared.Arrival.{Arrival}
+use Rattle.receive_answer.specs.declared.Network.{Network}
+use Rattle.receive_answer.specs.declared.Reception.{Reception}
+use Rattle.receive_answer.specs.declared.Reception.the-variants.{Delivered, Copy, OutOfSequence, UnknownLink, Late}
+use Rattle.receive_sequence.specs.Sequence.{passes, numberCount}
+use Rattle.receive.specs.Lent.{skewIn, rowFound}
+use Rattle.receive_answer.specs.Answer.{other, receptionCode, inSkew}
+use Rattle.receive_answer.proofs.Answer.{reception-late, reception-out, by-reception}
+use Rattle.receive_history.specs.History.{Answered, answeredOf, Empty, Octets}
 use Rattle.receive_history.specs.Rule.{ofLink, newestTime, newestNumber, numbered, unmet, ruleOn, ruleBy, ruleAnswer}
 use Rattle.receive_history.specs.Words.{pastOf, nextAnswer, DeliveryOf, CopyOf, MeetsDelivery, CopyOrDelivered, OtherReceptionsInWords, CopiesInWords, CopyMeetsDelivery, MetOnce, AloneDelivered}
 use Rattle.receive_history.proofs.Memory.{some?, amount, other-other, numbered-true, numbered-is, unmet-delivered, unmet-other, unmet-met, unmet-still, unmet-out, unmet-unknown, unmet-late, unmet-none}

@@ -9,17 +9,18 @@ use lib.ListN.{length}
 use lib.Dec.{eqb}
 use borrow.Author.Tests.{eq-eqb, eqb-true}
 use Rattle.lists.proofs.Tests.{split, both}
-use Rattle.receive.specs.declared.Arrival.{Arrival}
-use Rattle.receive.specs.declared.Network.{Network}
-use Rattle.receive.specs.declared.Network.the-variants.{A, B}
-use Rattle.receive.specs.declared.Reception.{Reception}
-use Rattle.receive.specs.declared.Reception.the-variants.{Delivered, Copy, OutOfSequence, UnknownLink, Late}
-use Rattle.receive.specs.Lent.{index, other, memoryWords, timeWord, numberWord, awaitingWord, deliveredWord, word, deliveryOf, latestTime, lastNumber, awaiting, noted, met, delivered}
-use Rattle.receive.specs.Receive.{taken, memoryAfter, answerBy}
+use Rattle.receive_answer.specs.declared.Arrival.{Arrival}
+use Rattle.receive_answer.specs.declared.Network.{Network}
+use Rattle.receive_answer.specs.declared.Network.the-variants.{A, B}
+use Rattle.receive_answer.specs.declared.Reception.{Reception}
+use Rattle.receive_answer.specs.declared.Reception.the-variants.{Delivered, Copy, OutOfSequence, UnknownLink, Late}
+use Rattle.receive.specs.Lent.{index, memoryWords, timeWord, numberWord, awaitingWord, deliveredWord, word, latestTime, lastNumber, awaiting, noted, met, delivered}
+use Rattle.receive_answer.specs.Answer.{other, deliveryOf, taken}
+use Rattle.receive.specs.Receive.{memoryAfter, answerBy}
 use Rattle.receive.specs.Claims.{SameMemory}
 use Rattle.receive_sequence.specs.Sequence.{numberCount, numberOf}
 use Rattle.receive_sequence.proofs.Passing.{number-none}
-use Rattle.receive.proofs.Answering.{delivery-none}
+use Rattle.receive_answer.proofs.Answer.{delivery-none}
 use Rattle.receive.proofs.Words.{number-inside, awaiting-inside, delivered-inside}
 use Rattle.receive.proofs.Kept.{noted-room, noted-time, noted-number, noted-other, noted-awaiting, met-time, met-number, met-same, met-other, delivered-time, delivered-number, delivered-same, delivered-other}
 use Rattle.receive_history.specs.History.{Answered, answeredOf}

@@ -12,11 +12,12 @@ use Rattle.lists.proofs.Tests.{split}
 use Rattle.octets.specs.Numbers.{numberAt}
 use Rattle.rows.specs.declared.Found.{Found}
 use Rattle.rows.specs.declared.Found.the-variants.{At, Nowhere}
-use Rattle.receive.specs.declared.Arrival.{Arrival}
-use Rattle.receive.specs.declared.Reception.{Reception}
-use Rattle.receive.specs.declared.Reception.the-variants.{UnknownLink}
+use Rattle.receive_answer.specs.declared.Arrival.{Arrival}
+use Rattle.receive_answer.specs.declared.Reception.{Reception}
+use Rattle.receive_answer.specs.declared.Reception.the-variants.{UnknownLink}
 use Rattle.receive.specs.Lent.{skewRowOctets, skewIn, memoryWords, rowFound}
-use Rattle.receive.specs.Receive.{taken, Received, receivedOf, memoryAfter, answerBy, onMemory, received}
+use Rattle.receive.specs.Receive.{Received, receivedOf, memoryAfter, answerBy, onMemory, received}
+use Rattle.receive_answer.specs.Answer.{taken}
 use Rattle.receive_sequence.specs.Sequence.{numberCount}
 use Rattle.receive.proofs.Answering.{refused-leaves, call-at, call-nowhere}
 use Rattle.receive.proofs.Kept.{left-beside}

@@ -4,9 +4,10 @@ use mathlib.Core.List.{List}
 use mathlib.Core.Path.{_≡_}
 use lib.ListN.{length}
 use Rattle.lists.specs.Claims.{PickedAnswers}
-use Rattle.receive.specs.declared.Arrival.{Arrival}
+use Rattle.receive_answer.specs.declared.Arrival.{Arrival}
 use Rattle.receive_sequence.specs.Claims.{PassTable}
-use Rattle.receive.specs.Claims.{AnswersApart, PossibleAnswers, RefusedKeeps, UnknownExactly, RowIsFirst, RowIsNowhere, SkewRowsBeyondUnread, ChangesOwnMemory, TimeAndNumberStored, ByOwnMemory}
+use Rattle.receive.specs.Claims.{PossibleAnswers, RefusedKeeps, UnknownExactly, RowIsFirst, RowIsNowhere, SkewRowsBeyondUnread, ChangesOwnMemory, TimeAndNumberStored, ByOwnMemory}
+use Rattle.receive_answer.specs.Claims.{AnswersApart}
 use Rattle.receive_history.specs.History.{frameAnswers, Empty, Octets}
 use Rattle.receive_history.specs.Rule.{ruleAnswers}
 use Rattle.receive_history.specs.Isolation.{ReceptionsApart}

@@ -10,8 +10,8 @@ use Rattle.lists.specs.History
 use Rattle.lists.specs.History.{Machine}
 use Rattle.rows.specs.declared.Found.{Found}
 use Rattle.rows.specs.declared.Found.the-variants.{At, Nowhere}
-use Rattle.receive.specs.declared.Arrival.{Arrival}
-use Rattle.receive.specs.declared.Reception.{Reception}
+use Rattle.receive_answer.specs.declared.Arrival.{Arrival}
+use Rattle.receive_answer.specs.declared.Reception.{Reception}
 use Rattle.receive.specs.Lent.{skewIn, memoryWords, rowsInUse, rowFound, word}
 use Rattle.receive.specs.Receive.{received}
 use Rattle.receive_sequence.specs.Sequence.{numberCount}

@@ -3,7 +3,7 @@ use Prim.Native.Nat.{ℕ}
 use mathlib.Core.List.{List}
 use mathlib.Core.Path.{_≡_}
 use Rattle.lists.specs.Lists.{only, answersTo}
-use Rattle.receive.specs.declared.Arrival.{Arrival}
+use Rattle.receive_answer.specs.declared.Arrival.{Arrival}
 use Rattle.receive_history.specs.History.{frameAnswers, finalMemory, Empty, Octets, onLink, skewOf, memoryOf}
 
 -- what two histories share, each with rows and records of its own, where the link has the same SkewMax in both and the

@@ -10,13 +10,13 @@ use Rattle.lists.specs.History.{Machine, answers, byAnswers}
 use Rattle.lists.specs.Lists.{only}
 use Rattle.rows.specs.declared.Found.{Found}
 use Rattle.rows.specs.declared.Found.the-variants.{At, Nowhere}
-use Rattle.receive.specs.declared.Arrival.{Arrival}
-use Rattle.receive.specs.declared.Network.{Network}
-use Rattle.receive.specs.declared.Network.the-variants.{A, B}
-use Rattle.receive.specs.declared.Reception.{Reception}
-use Rattle.receive.specs.declared.Reception.the-variants.{Delivered, Copy, OutOfSequence, UnknownLink, Late}
-use Rattle.receive.specs.Lent.{other, skewIn, rowFound}
-use Rattle.receive.specs.Receive.{taken, receptionBy}
+use Rattle.receive_answer.specs.declared.Arrival.{Arrival}
+use Rattle.receive_answer.specs.declared.Network.{Network}
+use Rattle.receive_answer.specs.declared.Network.the-variants.{A, B}
+use Rattle.receive_answer.specs.declared.Reception.{Reception}
+use Rattle.receive_answer.specs.declared.Reception.the-variants.{Delivered, Copy, OutOfSequence, UnknownLink, Late}
+use Rattle.receive.specs.Lent.{skewIn, rowFound}
+use Rattle.receive_answer.specs.Answer.{other, taken, receptionBy}
 use Rattle.receive_history.specs.History.{Answered, answeredOf, onLink}
 
 -- ---- the frames that a link received: not those refused with 4 or 8. Lists of frames before have the newest first

@@ -7,12 +7,13 @@ use mathlib.Core.Path.{_≡_}
 use lib.ListN.{length}
 use Rattle.lists.specs.Lists.{only}
 use Rattle.rows.specs.declared.Found.the-variants.{At, Nowhere}
-use Rattle.receive.specs.declared.Arrival.{Arrival}
-use Rattle.receive.specs.declared.Network.{Network}
-use Rattle.receive.specs.declared.Reception.{Reception}
-use Rattle.receive.specs.declared.Reception.the-variants.{Delivered, Copy, OutOfSequence, UnknownLink, Late}
+use Rattle.receive_answer.specs.declared.Arrival.{Arrival}
+use Rattle.receive_answer.specs.declared.Network.{Network}
+use Rattle.receive_answer.specs.declared.Reception.{Reception}
+use Rattle.receive_answer.specs.declared.Reception.the-variants.{Delivered, Copy, OutOfSequence, UnknownLink, Late}
 use Rattle.receive_sequence.specs.Sequence.{numberCount, passes}
-use Rattle.receive.specs.Lent.{other, skewIn, rowFound}
+use Rattle.receive.specs.Lent.{skewIn, rowFound}
+use Rattle.receive_answer.specs.Answer.{other}
 use Rattle.receive.specs.Receive.{received}
 use Rattle.receive_history.specs.History.{Answered, frameAnswers, finalMemory, Empty, Octets, onLink}
 use Rattle.receive_history.specs.Rule.{ofLink, newestTime, newestNumber, numbered, ruleAnswer}

@@ -2,13 +2,13 @@
 ghost use Prim.Native.Nat.{_≤_};
 ghost use lib.ListN.{length};
 use libc::STDOUT_FILENO;
-use replay_log::log::Entry;
-use replay_log::replies::answer;
-use switch::Verdict;
+use replay_answer::answer;
+use replay_log::Entry;
+use switch_verdict::Verdict;
 use tables::Settings;
 
 // Octets read at once, those of the longest record and more, and characters written at once.
-const READ_OCTETS: usize = 4 * replay_log::log::LONGEST_RECORD;
+const READ_OCTETS: usize = 4 * replay_log::LONGEST_RECORD;
 
 const WRITE_OCTETS: usize = 65536;
 
@@ -99,7 +99,7 @@ fn answer_filled(
     let mut next = from.next;
     let mut frames = from.frames;
     while frames < u64::MAX {
-        let entry = replay_log::log::next(log, at, whole);
+        let entry = replay_log::next(log, at, whole);
         let Entry::Frame(logged) = entry else {
             return stop(entry, from.filled, at, next, frames, out);
         };
@@ -126,7 +126,7 @@ fn refill(file: i32, log: &mut [u8], at: usize, filled: usize) -> usize
 {
     let end = octets::least(filled, log.len());
     let rest = end - octets::least(at, end);
-    replay_log::log::to_front(log, at, rest);
+    replay_log::to_front(log, at, rest);
     rest + io::read_full(file, &mut log[rest..])
 }
 

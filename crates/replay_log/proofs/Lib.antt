@@ -1,4 +1,2 @@
-pub mod Answering
-pub mod Claims
 pub mod Records
 pub mod Settled

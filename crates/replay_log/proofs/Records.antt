@@ -10,8 +10,8 @@ use Rattle.octets.specs.Numbers.{numberAt}
 use Rattle.fields.specs.Fields.{tagAndLength, lengthAt, fieldAt}
 use Rattle.fields.specs.declared.Field.{Field}
 use Rattle.replay_log.specs.Records.{recordTag, timeOctets, timeAndPortOctets, portOffset, frameStart, unsettled, frameRecordAt, recordAt, nextIn}
-use Rattle.replay_log.specs.declared.log.Entry.{Entry}
-use Rattle.replay_log.specs.declared.log.Entry.the-variants.{Frame, More, Cut, End}
+use Rattle.replay_log.specs.declared.Entry.{Entry}
+use Rattle.replay_log.specs.declared.Entry.the-variants.{Frame, More, Cut, End}
 
 pub open-cut : (w : Bool) → w ≡ true → Cut ≡ unsettled w
 unfolding unsettled

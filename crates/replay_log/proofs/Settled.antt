@@ -15,9 +15,9 @@ use Rattle.lists.proofs.Tests.{split}
 use Rattle.fields.specs.Fields.{tagAndLength, lengthAt}
 use Rattle.replay_log.specs.Records.{recordTag, timeOctets, timeAndPortOctets, portOffset, frameStart, unsettled, recordAt, nextIn}
 use Rattle.replay_log.specs.Claims.{moved, NextSettled, NextMoved, NeverMore, FrameInside}
-use Rattle.replay_log.specs.declared.log.FrameRecord.{FrameRecord}
-use Rattle.replay_log.specs.declared.log.Entry.{Entry}
-use Rattle.replay_log.specs.declared.log.Entry.the-variants.{Frame, More, Cut, End}
+use Rattle.replay_log.specs.declared.FrameRecord.{FrameRecord}
+use Rattle.replay_log.specs.declared.Entry.{Entry}
+use Rattle.replay_log.specs.declared.Entry.the-variants.{Frame, More, Cut, End}
 use Rattle.replay_log.proofs.Records.{open-more, logged-short, logged-open, logged-frame, next-end, next-more, next-tag, next-open, next-logged}
 
 -- a record by its offsets

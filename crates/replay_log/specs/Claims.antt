@@ -1,19 +1,13 @@
--- What holds of logs whatever they are (document 01, "The replay program"); proved in proofs/Settled.antt and proofs/Claims.antt.
+-- What holds of logs whatever they are (document 01, "The replay program"); proved in proofs/Settled.antt.
 use Prim.Native.Nat.{ℕ, _+_, _≤_, _<_}
 use mathlib.Core.Bool.{Bool, false}
 use mathlib.Core.List.{List, _++_}
 use mathlib.Core.Path.{_≡_}
 use lib.ListN.{length, getD}
-use Rattle.frame.specs.Limits.{largestFrame}
-use Rattle.tables.specs.Rows.{Config}
-use Rattle.switch.specs.declared.Verdict.the-variants.{Refused}
-use Rattle.switch.specs.Verdict.{reported}
-use Rattle.switch.specs.Call.{State, afterOf, called}
-use Rattle.replay_log.specs.Answer.{recordCall}
 use Rattle.replay_log.specs.Records.{frameStart, longestRecord, nextIn}
-use Rattle.replay_log.specs.declared.log.FrameRecord.{FrameRecord}
-use Rattle.replay_log.specs.declared.log.Entry.{Entry}
-use Rattle.replay_log.specs.declared.log.Entry.the-variants.{Frame, More, Cut, End}
+use Rattle.replay_log.specs.declared.FrameRecord.{FrameRecord}
+use Rattle.replay_log.specs.declared.Entry.{Entry}
+use Rattle.replay_log.specs.declared.Entry.the-variants.{Frame, More, Cut, End}
 
 -- ---- how much of a log is at hand never decides an answer
 -- what is reported without more octets is reported with them, whichever they are
@@ -39,9 +33,3 @@ abbrev pub FrameInside : Type 0
 FrameInside =
     (s : List ℕ) (at : ℕ) (whole : Bool) (r : FrameRecord) → nextIn s at whole ≡ Frame r
     → (r .start ≡ at + frameStart) × (r .next ≡ r .start + r .size) × (r .next ≤ length s)
-
--- a frame longer than any is answered 2, and nothing changes
-abbrev pub LongFrameSkipped : Type 0
-LongFrameSkipped =
-    (g : Config) (s : State) (log : List ℕ) (r : FrameRecord) → largestFrame < r .size
-    → called g s (recordCall log r) ≡ afterOf (reported (Refused 2)) s

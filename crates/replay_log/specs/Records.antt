@@ -7,9 +7,9 @@ use lib.Dec.{leb, ltb, eqb}
 use Rattle.lists.specs.Choice.{if_then_else_}
 use Rattle.octets.specs.Numbers.{numberAt}
 use Rattle.fields.specs.Fields.{tagAndLength, lengthAt, fieldAt}
-use Rattle.replay_log.specs.declared.log.FrameRecord.{FrameRecord}
-use Rattle.replay_log.specs.declared.log.Entry.{Entry}
-use Rattle.replay_log.specs.declared.log.Entry.the-variants.{Frame, More, Cut, End}
+use Rattle.replay_log.specs.declared.FrameRecord.{FrameRecord}
+use Rattle.replay_log.specs.declared.Entry.{Entry}
+use Rattle.replay_log.specs.declared.Entry.the-variants.{Frame, More, Cut, End}
 
 -- the tag of a record; the octets of its time, and those of its time and its port, which its length counts beside the frame's
 abbrev pub recordTag : ℕ

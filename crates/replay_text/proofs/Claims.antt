@@ -1,19 +1,13 @@
--- What holds of numbers and lines whatever they are. Assumes nothing.
+-- What holds of lines whatever they are. Assumes nothing.
 use mathlib.Core.Path.{refl}
 use native.Mathlib.Omega.{arith}
 use lib.ListN.{length-append}
 use Rattle.lists.specs.Leading.{leading}
-use Rattle.replay_text.specs.Digits.{digitsOf, widthOf}
-use Rattle.replay_text.specs.Text.{space, lineEnd, wordOf, frameLine, refusedLine}
-use Rattle.replay_text.specs.Claims.{DigitsReadBack, NoZeroInFront, LinesFit, SheetLines}
-use Rattle.replay_text.proofs.Decimal.{digits-read, width-holds, first-digit, one-digit}
-use Rattle.replay_text.proofs.Words.{word-most, word-code, word-credit}
-
-pub digits-read-back : DigitsReadBack
-digits-read-back x h = digits-read (widthOf x) x (width-holds x h)
-
-pub no-zero-in-front : NoZeroInFront
-no-zero-in-front x h = (one-digit x, first-digit x h)
+use Rattle.replay_words.specs.Digits.{digitsOf, widthOf}
+use Rattle.replay_text.specs.Text.{space, lineEnd, frameLine, refusedLine}
+use Rattle.replay_words.specs.Words.{wordOf}
+use Rattle.replay_text.specs.Claims.{LinesFit, SheetLines}
+use Rattle.replay_words.proofs.Words.{word-most, word-code, word-credit}
 
 pub lines-fit : LinesFit
 unfolding frameLine refusedLine

@@ -1,3 +1,1 @@
 pub mod Claims
-pub mod Decimal
-pub mod Words

@@ -1,18 +1,10 @@
--- What holds of numbers and lines whatever they are (document 01, "The replay program"); proved in proofs/Claims.antt.
+-- What holds of lines whatever they are (document 01, "The replay program"); proved in proofs/Claims.antt.
 use Prim.Native.Nat.{ℕ, _^_, _≤_, _<_}
 use mathlib.Core.List.{[], _∷_}
 use mathlib.Core.Option.{none, some}
 use mathlib.Core.Path.{_≡_}
-use lib.ListN.{length, getD}
-use Rattle.replay_text.specs.Digits.{zeroChar, widthOf, decimalOf, digitsRead}
+use lib.ListN.{length}
 use Rattle.replay_text.specs.Text.{frameLine, refusedLine, headerLine, cutLine, longestLine}
-
--- ---- the digits of a number of 64 bits spell it, and none stands before it without need
-abbrev pub DigitsReadBack : Type 0
-DigitsReadBack = (x : ℕ) → x < 2 ^ 64 → digitsRead (widthOf x) (decimalOf x) ≡ x
-
-abbrev pub NoZeroInFront : Type 0
-NoZeroInFront = (x : ℕ) → x < 2 ^ 64 → (x < 10 → widthOf x ≡ 1) × (10 ≤ x → getD (decimalOf x) 0 0 ≡ zeroChar → ⊥)
 
 -- ---- no line is longer than the longest; the lines of case 14 of the bench sheet
 abbrev pub LinesFit : Type 0

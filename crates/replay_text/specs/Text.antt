@@ -2,12 +2,8 @@
 use Prim.Native.Nat.{ℕ, _+_}
 use mathlib.Core.List.{List, [], _∷_, _++_}
 use mathlib.Core.Option.{Option, none, some}
-use lib.ListN.{length}
-use lib.Dec.{leb}
-use Rattle.lists.specs.Choice.{if_then_else_}
-use Rattle.octets.specs.Runs.{put}
-use Rattle.switch.specs.Verdict.{Report}
-use Rattle.replay_text.specs.Digits.{decimalOf}
+use Rattle.switch_verdict.specs.Verdict.{Report}
+use Rattle.replay_words.specs.Words.{wordOf}
 
 -- a space, the end of a line, and the dash that stands for no credit
 abbrev pub space : ℕ
@@ -18,10 +14,6 @@ lineEnd = 10
 
 abbrev pub dash : ℕ
 dash = 45
-
--- a number and the character after it
-unfoldable pub wordOf : ℕ → ℕ → List ℕ
-wordOf x mark = decimalOf x ++ (mark ∷ [])
 
 -- the credit reported, which codes 0, 8 and 9 have, and the line's end
 abbrev pub creditWord : Option ℕ → List ℕ
@@ -53,17 +45,3 @@ cutLine = 99 ∷ 117 ∷ 116 ∷ 10 ∷ []
 -- no line is longer: 20 digits, 3 digits and 10 digits, each with a character after it
 abbrev pub longestLine : ℕ
 longestLine = 36
-
--- ---- a line written at an offset: the room, and the offset after it; both as they were where it has no room
-pub record Appended : Type 0 where
-  pub room : List ℕ
-  pub next : ℕ
-
-abbrev pub appendedOf : ℕ → List ℕ → Appended
-appendedOf p d = record { room = d; next = p }
-
-unfoldable pub nextOffset : List ℕ → ℕ → List ℕ → ℕ
-nextOffset d at xs = if leb (at + length xs) (length d) then at + length xs else at
-
-abbrev pub appended : List ℕ → ℕ → List ℕ → Appended
-appended d at xs = record { room = put d at xs; next = nextOffset d at xs }

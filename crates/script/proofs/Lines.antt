@@ -1,16 +1,15 @@
 -- Laws of lines and the numbers in them. Assumes nothing.
 use Prim.Native.Nat.{ℕ, zero, suc, _+_, _*_, _-_, _%_, _^_, _≤_, _<_, min}
-use mathlib.Core.Bool.{Bool, true, false, _&&_}
 use mathlib.Core.List.{List, [], _∷_}
-use mathlib.Core.Path.{_≡_, refl, sym, ap, _∙_}
+use mathlib.Core.Path.{_≡_, refl, ap, _∙_}
 use native.Mathlib.Nat.{min-le-right}
 use native.Mathlib.Omega.{arith}
 use lib.ListN.{length, getD, drop, length-drop}
-use lib.Dec.{leb, eqb}
+use lib.Dec.{eqb}
 use borrow.Author.Tests.{eq-eqb, ne-eqb, le-leb, lt-leb}
 use Rattle.lists.proofs.Tests.{split}
 use Rattle.script.specs.declared.Line.{Line}
-use Rattle.script.specs.Lines.{lineLength, lineEnd, lineOf, noNumbers, joinedDigit, readOctet, numbersOf}
+use Rattle.script.specs.Lines.{lineLength, lineEnd, lineOf, noNumbers, readOctet, numbersOf}
 
 -- ---- one octet
 module _ (l : Line) (x : ℕ) where

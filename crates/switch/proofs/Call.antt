@@ -19,14 +19,14 @@ use Rattle.account.specs.declared.Account.{Account}
 use Rattle.account.proofs.Methods.{none-unsound, some-sound, some-capacity}
 use Rattle.account.proofs.Step.{police-judged}
 use Rattle.tables.specs.Rows.{Config, accountOctets, termsAt, found}
-use Rattle.tables.specs.Rules.{linkSound}
+use Rattle.tables_rules.specs.Rules.{linkSound}
 use Rattle.rows.specs.declared.Found.{Found}
 use Rattle.tables.specs.declared.Link.{Link}
 use Rattle.tables.proofs.Rows.{terms-within}
-use Rattle.tables.proofs.Rules.{account-past}
+use Rattle.tables_rules.proofs.Rules.{account-past}
 use Rattle.filter.specs.declared.Route.{Route}
 use Rattle.filter.specs.declared.Route.the-variants.{Stopped, OnLink}
-use Rattle.switch.specs.Verdict.{Report, withMask}
+use Rattle.switch_verdict.specs.Verdict.{Report, withMask}
 use Rattle.filter.specs.Filter.{frameCode, portCode, routeTo, routed}
 use Rattle.switch.specs.Call.{State, stateOf, Call, After, inUseBy, accountsInUse, accountHeld, Decided, kept, stepOn, decided, stored, refusedWith, settled, called}
 use Rattle.filter.proofs.Filter.{frame-zero, route-stopped, route-row}

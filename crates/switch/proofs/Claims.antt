@@ -1,9 +1,9 @@
 -- What holds of the frame call for any tables, by cases of its definition. Assumes nothing.
 use Prim.Native.Nat.{ℕ, _-_, _≤_, _<_}
-use mathlib.Core.Bool.{Bool, true, false, not, cond, _&&_, false≢true}
+use mathlib.Core.Bool.{Bool, true, false, not, _&&_, false≢true}
 use mathlib.Core.List.{List, [], _∷_}
 use mathlib.Core.Logic.{_⊎_, inl, inr}
-use mathlib.Core.Option.{Option, none, some}
+use mathlib.Core.Option.{none}
 use mathlib.Core.Path.{_≡_, refl, sym, ap, _∙_, subst}
 use native.Mathlib.Nat.{le-trans}
 use native.Mathlib.Omega.{arith}
@@ -22,42 +22,20 @@ use Rattle.account.proofs.Step.{by-step}
 use Rattle.account.proofs.Claims.{step-below-capacity}
 use Rattle.rows.specs.Rows.{foundIn}
 use Rattle.tables.specs.Rows.{Config, linkTable, linkIn, linksInUse, found}
-use Rattle.tables.specs.Rules.{portCount, linkSound}
+use Rattle.tables_rules.specs.Rules.{portCount, linkSound}
 use Rattle.rows.specs.declared.Found.{Found}
 use Rattle.rows.specs.declared.Found.the-variants.{At, Nowhere}
 use Rattle.tables.specs.declared.Link.{Link}
 use Rattle.rows.proofs.Finding.{first-found}
 use Rattle.tables.proofs.Claims.{links-same}
-use Rattle.tables.proofs.Rules.{account-past, sound-port, sound-sizes}
-use Rattle.switch.specs.declared.Verdict.{Verdict}
-use Rattle.switch.specs.declared.Verdict.the-variants.{Forwarded, Short, Late, Refused}
-use Rattle.switch.specs.Verdict.{Report, report, reported}
+use Rattle.tables_rules.proofs.Rules.{account-past, sound-port, sound-sizes}
+use Rattle.switch_verdict.specs.declared.Verdict.the-variants.{Forwarded, Short, Late}
+use Rattle.switch_verdict.specs.Verdict.{Report, report}
 use Rattle.filter.specs.Filter.{frameCode, portCode}
 use Rattle.switch.specs.Call.{State, Call, After, accountsInUse, accountHeld, Decided, kept, stepOn, decided, stored, refusedWith, byLink, called}
-use Rattle.switch.specs.Claims.{VerdictsApart, CallAnswers, RefusedCallKeeps, LengthAlone, Line, line, firstFit, linkLines, rowLines, codeTable, CodesInOrder}
-use Rattle.switch.specs.Claims.{Effects, RowEffects, CallEffects, StoredBelowCapacity, PortsBeyond, SameInUse, RowsBeyondUnread}
+use Rattle.switch.specs.Claims.{CallAnswers, RefusedCallKeeps, LengthAlone, Line, line, firstFit, linkLines, rowLines, codeTable, CodesInOrder, Effects, RowEffects, CallEffects, StoredBelowCapacity, PortsBeyond, SameInUse, RowsBeyondUnread}
 use Rattle.filter.proofs.Filter.{frame-length, frame-constant, frame-passes, frame-code-high, frame-zero, port-other, port-small, port-large, port-passes, port-code-high, passed-largest}
 use Rattle.switch.proofs.Call.{held-again, decided-unsound, decided-refused, decided-policed, onRow, call-refused, call-row}
-
--- ---- a verdict, from what it reports
-heard : Report → Verdict
-heard w = from (w .mask) (w .credit)
-  where
-    from : Option ℕ → Option ℕ → Verdict
-    from (some m) (some c) = Forwarded m c
-    from (some m) none = Refused (w .code)
-    from none (some c) = cond (eqb (w .code) 9) (Short c) (Late c)
-    from none none = Refused (w .code)
-
-heard-reported : (v : Verdict) → heard (reported v) ≡ v
-unfolding heard
-heard-reported (Forwarded m c) = refl
-heard-reported (Short c) = refl
-heard-reported (Late c) = refl
-heard-reported (Refused n) = refl
-
-pub verdicts-apart : VerdictsApart
-verdicts-apart v w e = sym (heard-reported v) ∙ ap heard e ∙ heard-reported w
 
 -- ---- by cases of what is decided for a link and its account, the frame having the size of a frame
 module _ (l : Link) (used : ℕ) (a : Account) (n port t : ℕ) (z : lengthCode n ≡ 0) where

@@ -10,11 +10,11 @@ use Rattle.account.specs.Account.{accountOf, accountSound}
 use Rattle.account.specs.Step.{Stepped, policed}
 use Rattle.account.specs.declared.Account.{Account}
 use Rattle.tables.specs.Rows.{Config, accountOctets, accountTable, accountIn}
-use Rattle.tables.specs.Rules.{linkSound}
+use Rattle.tables_rules.specs.Rules.{linkSound}
 use Rattle.tables.specs.declared.Link.{Link}
 use Rattle.switch.specs.declared.Decision.{Decision}
-use Rattle.switch.specs.declared.Verdict.the-variants.{Refused}
-use Rattle.switch.specs.Verdict.{Report, reported, withMask}
+use Rattle.switch_verdict.specs.declared.Verdict.the-variants.{Refused}
+use Rattle.switch_verdict.specs.Verdict.{Report, reported, withMask}
 use Rattle.filter.specs.Filter.{portCode, routed}
 use Rattle.filter.specs.declared.Route.{Route}
 use Rattle.filter.specs.declared.Route.the-variants.{Stopped, OnLink}

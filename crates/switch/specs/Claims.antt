@@ -15,17 +15,12 @@ use Rattle.terms.specs.Terms.{capacity, cost}
 use Rattle.account.specs.Account.{termsOf, accountSound, creditAt}
 use Rattle.account.specs.declared.Account.{Account}
 use Rattle.tables.specs.Rows.{Config, linkTable, linkIn, linksInUse, found}
-use Rattle.tables.specs.Rules.{portCount, linkSound}
+use Rattle.tables_rules.specs.Rules.{portCount, linkSound}
 use Rattle.rows.specs.declared.Found.{Found}
 use Rattle.rows.specs.declared.Found.the-variants.{At, Nowhere}
 use Rattle.tables.specs.declared.Link.{Link}
-use Rattle.switch.specs.declared.Verdict.{Verdict}
-use Rattle.switch.specs.Verdict.{report, reported}
+use Rattle.switch_verdict.specs.Verdict.{report}
 use Rattle.switch.specs.Call.{State, stateOf, Call, After, accountsInUse, accountHeld, decided, refusedWith, called}
-
--- two verdicts that report the same are the same
-abbrev pub VerdictsApart : Type 0
-VerdictsApart = (v w : Verdict) → reported v ≡ reported w → v ≡ w
 
 -- demand 1: a call's code is one of the table's, 0 to 10
 abbrev pub CallAnswers : Type 0

@@ -2,26 +2,16 @@
 ghost use mathlib.Core.Path.{_≡_};
 ghost use Prim.Native.Nat.{_+_, _*_, _≤_};
 ghost use lib.ListN.{length, getD};
-ghost use Rattle.account.specs.Step.{stepReported as stepTold};
 ghost use Rattle.frame.specs.Frame.{lengthCode};
 ghost use Rattle.tables.specs.Rows.{accountOctets, configFor};
-ghost use Rattle.switch.specs.Verdict.{reported, withMask};
+ghost use Rattle.switch_verdict.specs.Verdict.{reported};
 ghost use Rattle.switch.specs.Call.{inUseBy, accountHeld, decisionOf, kept, decided, stateOf, callOf, afterOf, called};
 use account::Account;
-use account::Outcome;
 use account::UNSOUND;
 use filter::Route;
+use switch_verdict::Verdict;
 use tables::Link;
 use tables::Settings;
-
-// The answer of a frame call: forwarded with the output ports and the credit left, short or late with the credit held,
-// or refused with its code.
-pub enum Verdict {
-    Forwarded { mask: u32, credit: u32 },
-    Short(u32),
-    Late(u32),
-    Refused(u8),
-}
 
 // How a frame came in: the port, and the time in microseconds.
 pub struct Ingress {
@@ -34,18 +24,6 @@ struct Decision {
     verdict: Verdict,
     credit: u32,
     last: u64,
-}
-
-// A policing step's answer as a verdict on a link with this mask.
-fn verdict_of(outcome: Outcome, mask: u32) -> Verdict
-    ensures { λ r. ⌜ reported r ≡ withMask mask (stepTold outcome) ⌝ }
-{
-    match outcome {
-        Outcome::Forwarded(credit) => Verdict::Forwarded { mask, credit },
-        Outcome::Short(credit) => Verdict::Short(credit),
-        Outcome::Late(credit) => Verdict::Late(credit),
-        Outcome::Refused(code) => Verdict::Refused(code),
-    }
 }
 
 // A refusal that leaves the account as it is.
@@ -65,7 +43,7 @@ fn decide(link: Link, used: usize, account: Account, octets: usize, ingress: Ing
     requires { ⌜ lengthCode octets ≡ 0 ⌝ }
     ensures { λ r. ⌜ decisionOf r ≡ decided link used account octets (ingress .port) (ingress .time) ⌝ }
 {
-    if !link.sound(used, account.terms.smax) {
+    if !tables_rules::link_sound(link, used, account.terms.smax) {
         return kept(UNSOUND, account);
     }
     let capacity = account.capacity();
@@ -79,7 +57,7 @@ fn decide(link: Link, used: usize, account: Account, octets: usize, ingress: Ing
     let step = account.judge(capacity, account.terms.cost(octets), ingress.time);
     let outcome = step.outcome;
     Decision {
-        verdict: verdict_of(outcome, link.mask),
+        verdict: switch_verdict::verdict_of(outcome, link.mask),
         credit: step.credit,
         last: step.last,
     }

@@ -1,4 +1,3 @@
 pub mod Claims
 pub mod Lookups
 pub mod Rows
-pub mod Rules

@@ -1,13 +1,9 @@
--- What holds of the search for a link's number, and the rules at both sides of their bounds; proved in proofs/Claims.antt.
-use Prim.Native.Nat.{ℕ, _≤_, _<_}
-use mathlib.Core.Bool.{true, false}
-use mathlib.Core.List.{List, [], _∷_, map}
+-- What holds of the search for a link's number; proved in proofs/Claims.antt.
+use Prim.Native.Nat.{ℕ, _<_}
+use mathlib.Core.List.{List}
 use mathlib.Core.Path.{_≡_}
-use Rattle.rows.specs.Rows.{Rows}
 use Rattle.rows.specs.declared.Found.the-variants.{At, Nowhere}
-use Rattle.tables.specs.Rows.{accountIn, linkTable, linkIn, linksInUse, found}
-use Rattle.tables.specs.Rules.{linkSound, linkRowSound}
-use Rattle.tables.specs.declared.Link.{Link}
+use Rattle.tables.specs.Rows.{linkTable, linkIn, linksInUse, found}
 
 -- a row that is found is in use, has the number, and is the first that has it
 abbrev pub FindsFirst : Type 0
@@ -22,44 +18,3 @@ abbrev pub FindsNone : Type 0
 FindsNone =
     (links : List ℕ) (count x : ℕ) → found links count x ≡ Nowhere
     → (j : ℕ) → j < linksInUse links count → linkIn (linkTable links) j .number ≡ x → ⊥
-
--- the sizes of a sound link row are a frame's, and at most Smax as the row of its account has it: in modes with line octets too
--- (document 02, Q-3)
-abbrev pub SizesWithinSmax : Type 0
-SizesWithinSmax =
-    (a l : Rows) (n j : ℕ) → linkRowSound a l n j ≡ true
-    → (64 ≤ linkIn l j .smallest)
-    × (linkIn l j .smallest ≤ linkIn l j .largest)
-    × (linkIn l j .largest ≤ accountIn a (linkIn l j .account) .smax)
-
--- a link of number 7 with these values; judged among 2 accounts, Smax 200 for its own
-abbrev pub linkWith : ℕ → ℕ → ℕ → ℕ → ℕ → Link
-linkWith port mask smallest largest account =
-    record { number = 7; port = port; mask = mask; smallest = smallest; largest = largest; account = account }
-
--- port 32; no output port; the input port as output port; smallest below a frame's; sizes swapped; largest above Smax; account 2
-abbrev pub LinkRefused : Type 0
-LinkRefused =
-    map (λ l. linkSound l 2 200)
-    (linkWith 32 8 64 200 1
-    ∷ linkWith 2 0 64 200 1
-    ∷ linkWith 2 12 64 200 1
-    ∷ linkWith 2 8 63 200 1
-    ∷ linkWith 2 8 201 200 1
-    ∷ linkWith 2 8 64 201 1
-    ∷ linkWith 2 8 64 200 2
-    ∷ [])
-    ≡ false ∷ false ∷ false ∷ false ∷ false ∷ false ∷ false ∷ []
-
--- the same values at the good side of each bound; and all ports but the input port
-abbrev pub LinkAccepted : Type 0
-LinkAccepted =
-    map (λ l. linkSound l 2 200)
-    (linkWith 31 8 64 200 1
-    ∷ linkWith 2 8 64 200 1
-    ∷ linkWith 2 4294967291 64 200 1
-    ∷ linkWith 2 8 64 64 1
-    ∷ linkWith 2 8 200 200 1
-    ∷ linkWith 2 8 64 200 0
-    ∷ [])
-    ≡ true ∷ true ∷ true ∷ true ∷ true ∷ true ∷ []

@@ -1,3 +1,2 @@
 pub mod Claims
 pub mod Rows
-pub mod Rules

@@ -1,23 +1,17 @@
 // The tables that a switch is lent: rows of 6 octets an account and 13 a link, in the order of the image's data.
-// Decoding a row, the value rules of rows, and the search for a link's number.
+// Decoding a row, and the search for a link's number.
 ghost use mathlib.Core.Path.{_≡_};
 ghost use Prim.Native.Nat.{_+_, _≤_, _<_};
 ghost use lib.ListN.{length, getD};
 ghost use Rattle.octets.specs.Numbers.{numberAt};
-ghost use Rattle.rows.specs.Rows.{rowsBy};
-ghost use Rattle.tables.specs.Rows.{accountOctets, termsAt, linkOctets, linkAt, accountIn, found, lookupIn};
-ghost use Rattle.tables.specs.Rules.{portsSound, sizesSound, linkSound, accountGood, numberRises, linkGood};
+ghost use Rattle.tables.specs.Rows.{accountOctets, termsAt, linkOctets, linkAt, found, lookupIn};
 use rows::Found;
-use rows::Spacing;
 use terms::Terms;
 
 // Octets of a row.
 pub const ACCOUNT_OCTETS: usize = 6;
 
 pub const LINK_OCTETS: usize = 13;
-
-// Ports of a switch.
-const PORT_COUNT: u8 = 32;
 
 // A virtual link: number, input port, mask of output ports (the low bit is port 0), frame sizes, account.
 pub struct Link {
@@ -115,91 +109,6 @@ pub fn link_at(rows: &[u8], at: usize) -> Link
     let mut row = [0u8; LINK_OCTETS];
     octets_write::copy(rows, at, LINK_OCTETS, &mut row, 0);
     link_in(&row, 0)
-}
-
-// Whether a port is an input port and a mask names some output port, but not the input port.
-fn ports_sound(port: u8, mask: u32) -> bool
-    ensures { λ r. ⌜ r ≡ portsSound port mask ⌝ }
-{
-    if PORT_COUNT <= port {
-        return false;
-    }
-    if mask == 0 {
-        return false;
-    }
-    (mask >> port) & 1 == 0
-}
-
-// Whether frame sizes rise from the smallest frame to Smax.
-fn sizes_sound(smallest: u16, largest: u16, smax: u16) -> bool
-    ensures { λ r. ⌜ r ≡ sizesSound smallest largest smax ⌝ }
-{
-    if (smallest as usize) < frame::SMALLEST_FRAME {
-        return false;
-    }
-    if largest < smallest {
-        return false;
-    }
-    largest <= smax
-}
-
-impl Link {
-    // Whether the values keep their rules among so many accounts; `smax` is that of the link's account.
-    pub fn sound(self, accounts: usize, smax: u16) -> bool
-        ensures { λ r. ⌜ r ≡ linkSound self accounts smax ⌝ }
-    {
-        if accounts <= self.account as usize {
-            return false;
-        }
-        if !ports_sound(self.port, self.mask) {
-            return false;
-        }
-        sizes_sound(self.smallest, self.largest, smax)
-    }
-}
-
-// Whether the values of row i of the accounts keep their limits.
-pub fn account_good(run: &[u8], rows: Spacing, i: u16) -> bool
-    ensures { λ r. ⌜ r ≡ accountGood (rowsBy (now (run .entry)) rows) i ⌝ }
-{
-    terms_at(run, rows::row_offset(run, rows, i)).are_good()
-}
-
-// Smax of row i of the accounts.
-fn smax_of(run: &[u8], rows: Spacing, i: u16) -> u16
-    ensures { λ r. ⌜ r ≡ accountIn (rowsBy (now (run .entry)) rows) i .smax ⌝ }
-{
-    octets::u16_at(run, rows::row_offset(run, rows, i))
-}
-
-// Whether the number in row j of the links is above the one before it.
-fn number_rises(run: &[u8], rows: Spacing, j: u16) -> bool
-    ensures { λ r. ⌜ r ≡ numberRises (rowsBy (now (run .entry)) rows) j ⌝ }
-{
-    if j == 0 {
-        return true;
-    }
-    let before = octets::u16_at(run, rows::row_offset(run, rows, j - 1));
-    before < octets::u16_at(run, rows::row_offset(run, rows, j))
-}
-
-// Whether the values of row j of the links keep their rules among n accounts. Smax is that of the link's own account.
-pub fn link_good(
-    accounts: &[u8],
-    account_rows: Spacing,
-    n: u16,
-    links: &[u8],
-    link_rows: Spacing,
-    j: u16,
-) -> bool
-    ensures { λ r. ⌜ r ≡ linkGood (rowsBy (now (accounts .entry)) «account_rows») (rowsBy (now (links .entry)) «link_rows») n j ⌝ }
-{
-    if !number_rises(links, link_rows, j) {
-        return false;
-    }
-    let l = link_at(links, rows::row_offset(links, link_rows, j));
-    let smax = smax_of(accounts, account_rows, l.account);
-    l.sound(n as usize, smax)
 }
 
 // The first of the rows in use that has the number. A count larger than the rows lent is read as those.

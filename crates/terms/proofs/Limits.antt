@@ -11,8 +11,7 @@ use borrow.Author.Tests.{leb-true, lt-leb, le-leb, eq-eqb, ne-eqb}
 use Rattle.lists.proofs.Tests.{split, both}
 use Rattle.frame.specs.Limits.{smallestFrame, largestFrame}
 use Rattle.terms.specs.declared.Terms.{Terms}
-use Rattle.terms.specs.Terms.{largestK, largestJitter, byteMode, lineByteMode, lineFrameMode, termsGood, shortestBag, bag}
-use Rattle.terms.specs.Terms.{lineOctets, added, charge, rate, capacity, byOctets, charged, cost}
+use Rattle.terms.specs.Terms.{largestK, largestJitter, byteMode, lineByteMode, lineFrameMode, termsGood, shortestBag, bag, lineOctets, added, charge, rate, capacity, byOctets, charged, cost}
 
 -- ---- the limits, one by one
 pub record Limits (p : Terms) : Type 0 where

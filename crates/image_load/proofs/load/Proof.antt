@@ -1,7 +1,6 @@
 -- `load`: the answer, and the runs filled by its counts, which are 0 after a refusal. Assumes nothing.
 use native.Mathlib.Omega.{arith}
-use Rattle.image_load.proofs.Loading.{few-accounts-loaded, few-links-loaded}
-use Rattle.image_load.proofs.Filling.{load-is}
+use Rattle.image_load.proofs.Loading.{few-accounts-loaded, few-links-loaded, load-is}
 use borrow.Author.Needs.{needs}
 use Rattle.image_load.proofs.load.Statement.{statement}
 use Rattle.image_load.proofs.load.Tie as tie

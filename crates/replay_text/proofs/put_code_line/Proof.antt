@@ -3,7 +3,7 @@ use mathlib.Core.Option.{none}
 use native.Mathlib.Omega.{arith}
 use Rattle.octets.proofs.Parts.{part-whole}
 use Rattle.replay_text.specs.Text.{space, creditWord, frameLine}
-use Rattle.replay_text.proofs.Words.{three, line-appended, word-most, word-code}
+use Rattle.replay_words.proofs.Words.{three, line-appended, word-most, word-code}
 use borrow.Author.Needs.{needs}
 use Rattle.replay_text.proofs.put_code_line.Statement.{statement}
 use Rattle.replay_text.proofs.put_code_line.Tie as tie

@@ -1,7 +1,7 @@
 -- `put_credit_line`: three words, and then the line. Assumes nothing.
 use native.Mathlib.Omega.{arith}
 use Rattle.replay_text.specs.Text.{space, lineEnd, frameLine}
-use Rattle.replay_text.proofs.Words.{three, line-appended, word-most, word-code, word-credit}
+use Rattle.replay_words.proofs.Words.{three, line-appended, word-most, word-code, word-credit}
 use borrow.Author.Needs.{needs}
 use Rattle.replay_text.proofs.put_credit_line.Statement.{statement}
 use Rattle.replay_text.proofs.put_credit_line.Tie as tie

@@ -1,7 +1,7 @@
 -- `put_cut`: its characters written. Assumes nothing.
 use Rattle.octets.proofs.Parts.{part-whole}
 use Rattle.replay_text.specs.Text.{cutLine}
-use Rattle.replay_text.proofs.Words.{line-appended}
+use Rattle.replay_words.proofs.Words.{line-appended}
 use borrow.Author.Needs.{needs}
 use Rattle.replay_text.proofs.put_cut.Statement.{statement}
 use Rattle.replay_text.proofs.put_cut.Tie as tie

@@ -1,7 +1,7 @@
 -- `put_header`: its characters written. Assumes nothing.
 use Rattle.octets.proofs.Parts.{part-whole}
 use Rattle.replay_text.specs.Text.{headerLine}
-use Rattle.replay_text.proofs.Words.{line-appended}
+use Rattle.replay_words.proofs.Words.{line-appended}
 use borrow.Author.Needs.{needs}
 use Rattle.replay_text.proofs.put_header.Statement.{statement}
 use Rattle.replay_text.proofs.put_header.Tie as tie

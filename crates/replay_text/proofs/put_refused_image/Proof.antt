@@ -1,8 +1,9 @@
 -- `put_refused_image`: its characters and two words, and then the line. Assumes nothing.
 use native.Mathlib.Omega.{arith}
 use Rattle.octets.proofs.Parts.{part-whole}
-use Rattle.replay_text.specs.Text.{space, lineEnd, wordOf, imageWord, refusedLine}
-use Rattle.replay_text.proofs.Words.{three, line-appended, word-most, word-code}
+use Rattle.replay_text.specs.Text.{space, lineEnd, imageWord, refusedLine}
+use Rattle.replay_words.specs.Words.{wordOf}
+use Rattle.replay_words.proofs.Words.{three, line-appended, word-most, word-code}
 use borrow.Author.Needs.{needs}
 use Rattle.replay_text.proofs.put_refused_image.Statement.{statement}
 use Rattle.replay_text.proofs.put_refused_image.Tie as tie

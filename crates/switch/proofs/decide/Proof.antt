@@ -4,8 +4,8 @@ use borrow.Author.Needs.{needs}
 use Rattle.switch.proofs.decide.Statement.{statement}
 use Rattle.switch.proofs.decide.Tie as tie
 
-sound-requires : tie.Need-sound-requires
-sound-requires c κs = search needs
+link-sound-requires : tie.Need-link-sound-requires
+link-sound-requires c κs = search needs
 
 kept-requires : tie.Need-kept-requires
 kept-requires c κs = search needs
@@ -42,11 +42,11 @@ verdict-of-requires c κs = search needs
 
 returns-4 : tie.Need-returns-4
 returns-4 c =
-    decided-step _ _ _ _ _ _ _ (c .before .before .before .before .before .before .before .before .sound .ensures) (c .before .before .before .before .before .before .before .if1 .left) _ (c .before .before .before .before .before .before .capacity .ensures) (c .before .before .before .before .before .if2 .left) _ (c .before .before .before .before .port-code .ensures)
+    decided-step _ _ _ _ _ _ _ (c .before .before .before .before .before .before .before .before .link-sound .ensures) (c .before .before .before .before .before .before .before .if1 .left) _ (c .before .before .before .before .before .before .capacity .ensures) (c .before .before .before .before .before .if2 .left) _ (c .before .before .before .before .port-code .ensures)
     (c .before .before .before .if3 .left) (c .before .before .before .before .before .before .before .before .before .pre) _ (c .before .before .cost .ensures) _ (c .before .judge .ensures) _ (c .verdict-of .ensures)
 
 pub decide-spec : {M : Type 1} → statement M
 decide-spec =
     tie.close
-    (tie.spec sound-requires kept-requires returns capacity-requires kept-requires-2 returns-2 port-code-requires
+    (tie.spec link-sound-requires kept-requires returns capacity-requires kept-requires-2 returns-2 port-code-requires
     kept-requires-3 returns-3 cost-requires judge-requires verdict-of-requires returns-4)

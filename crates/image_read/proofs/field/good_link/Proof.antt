@@ -2,7 +2,7 @@
 use mathlib.Core.Path.{ap}
 use native.Mathlib.Omega.{arith}
 use Rattle.tables.specs.declared.Link.{Link}
-use Rattle.tables.proofs.Rules.{link-falls, link-values}
+use Rattle.tables_rules.proofs.Rules.{link-falls, link-values}
 use Rattle.image_read.proofs.Passing.{link-unlike, link-valued}
 use Rattle.image_read.proofs.Values.{inside, link-in}
 use borrow.Author.Needs.{needs}
@@ -45,8 +45,8 @@ returns-2 c = search (link-valued, link-falls)
 smax-of-requires : tie.Need-smax-of-requires
 smax-of-requires c κs = search needs
 
-sound-requires : tie.Need-sound-requires
-sound-requires c κs = search needs
+link-sound-requires : tie.Need-link-sound-requires
+link-sound-requires c κs = search needs
 
 returns-3 : tie.Need-returns-3
 returns-3 c = search (link-valued, link-values, link-in)
@@ -55,4 +55,4 @@ pub good-link-spec : {M : Type 1} → statement M
 good-link-spec =
     tie.close
     (tie.spec field-offset-requires stands-requires returns add-row add-link-at sub-link-at part-link-at-start part-link-at-end
-    link-at-requires number-rises-requires returns-2 smax-of-requires sound-requires returns-3)
+    link-at-requires number-rises-requires returns-2 smax-of-requires link-sound-requires returns-3)

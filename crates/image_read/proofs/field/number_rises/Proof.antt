@@ -1,5 +1,5 @@
 -- `number_rises`: the first link, or two numbers compared. Assumes nothing.
-use Rattle.tables.proofs.Rules.{rises-first}
+use Rattle.tables_rules.proofs.Rules.{rises-first}
 use Rattle.image_read.proofs.Values.{rises-above}
 use borrow.Author.Needs.{needs}
 use Rattle.image_read.proofs.field.number_rises.Statement.{statement}
