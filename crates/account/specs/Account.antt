@@ -2,6 +2,7 @@
 use Prim.Native.Nat.{ℕ, _+_, _-_, _*_, min}
 use mathlib.Core.Bool.{Bool, _&&_}
 use lib.Dec.{leb, eqb}
+use Rattle.codes.specs.Codes
 use Rattle.lists.specs.Choice.{if_then_else_}
 use Rattle.frame.specs.Frame.{lengthCode}
 use Rattle.terms.specs.Terms.{termsGood, rate, capacity, cost}
@@ -41,7 +42,7 @@ unfoldable pub capacityOf : Account → ℕ
 capacityOf a = if accountSound a then capacity (termsOf a) else 0
 
 unfoldable pub costOf : Account → ℕ → ℕ
-costOf a n = if eqb (lengthCode n) 0 && accountSound a then cost (termsOf a) n else 0
+costOf a n = if eqb (lengthCode n) Codes.success && accountSound a then cost (termsOf a) n else 0
 
 unfoldable pub toppedUp : Account → ℕ → Account
 toppedUp a t = if accountSound a && leb (a .last) t then holding a (creditAt a t) t else a

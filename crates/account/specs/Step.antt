@@ -3,6 +3,7 @@ use Prim.Native.Nat.{ℕ, _-_}
 use mathlib.Core.Bool.{not}
 use mathlib.Core.Option.{Option, none, some}
 use lib.Dec.{ltb, leb, eqb}
+use Rattle.codes.specs.Codes
 use Rattle.lists.specs.Choice.{if_then_else_}
 use Rattle.frame.specs.Frame.{lengthCode}
 use Rattle.terms.specs.Terms.{capacity, cost}
@@ -18,9 +19,9 @@ pub record StepReport : Type 0 where
   pub credit : Option ℕ
 
 abbrev pub stepReported : Outcome → StepReport
-stepReported (Forwarded c) = record { code = 0; credit = some c }
-stepReported (Short c) = record { code = 9; credit = some c }
-stepReported (Late c) = record { code = 8; credit = some c }
+stepReported (Forwarded c) = record { code = Codes.success; credit = some c }
+stepReported (Short c) = record { code = Codes.short; credit = some c }
+stepReported (Late c) = record { code = Codes.late; credit = some c }
 stepReported (Refused n) = record { code = n; credit = none }
 
 -- what a step says, and the account that it leaves
@@ -50,6 +51,6 @@ judgedAt a full x t = if ltb t (a .last) then stepped (Late (a .credit)) a else 
 -- the step for a frame of n octets at time t: the length, the account, the time and then the credit decide
 unfoldable pub policed : Account → ℕ → ℕ → Stepped
 policed a n t =
-    if not (eqb (lengthCode n) 0) then stepped (Refused (lengthCode n)) a
-    else if not (accountSound a) then stepped (Refused 10) a
+    if not (eqb (lengthCode n) Codes.success) then stepped (Refused (lengthCode n)) a
+    else if not (accountSound a) then stepped (Refused Codes.unsound) a
     else judgedAt a (capacity (termsOf a)) (cost (termsOf a) n) t

@@ -10,9 +10,6 @@ use terms::Terms;
 // An elapsed time in which any rate but 0 adds more than a credit can hold.
 const LONG_ELAPSED: u64 = 4294967296;
 
-// Code 10.
-pub const UNSOUND: u8 = 10;
-
 // The configured values, the credit, and the time of the last frame that reached the account.
 pub struct Account {
     pub terms: Terms,
@@ -172,7 +169,7 @@ impl Account {
         ensures { λ r. ⌜ steppedOf r ≡ policed self octets time ⌝ }
     {
         let code = frame::length_code(octets);
-        if code != 0 {
+        if code != codes::SUCCESS {
             return Policed {
                 outcome: Outcome::Refused(code),
                 account: self,
@@ -181,7 +178,7 @@ impl Account {
         let capacity = self.capacity();
         if capacity == 0 {
             return Policed {
-                outcome: Outcome::Refused(UNSOUND),
+                outcome: Outcome::Refused(codes::UNSOUND),
                 account: self,
             };
         }

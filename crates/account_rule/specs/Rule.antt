@@ -6,6 +6,7 @@ use mathlib.Core.Path.{_≡_}
 use mathlib.Core.List.{List, [], _∷_, map}
 use mathlib.Core.Logic.{_↔_}
 use lib.Dec.{ltb, eqb}
+use Rattle.codes.specs.Codes
 use Rattle.lists.specs.Choice.{if_then_else_}
 use Rattle.lists.specs.History.{Machine, answers, final}
 use Rattle.frame.specs.Frame.{lengthCode}
@@ -57,14 +58,14 @@ ruled c past = record { code = c; past = past }
 -- account, with 0 where the rule holds and 9 where not
 unfoldable pub ruleArrived : Terms → List Reached → ℕ → ℕ → Ruled
 ruleArrived p past n t =
-    if ltb t (lastTime past) then ruled 8 past
-    else if ruleHolds (allowance p) t (cost p n) past then ruled 0 (reached t (cost p n) ∷ past)
-    else ruled 9 (reached t 0 ∷ past)
+    if ltb t (lastTime past) then ruled Codes.late past
+    else if ruleHolds (allowance p) t (cost p n) past then ruled Codes.success (reached t (cost p n) ∷ past)
+    else ruled Codes.short (reached t 0 ∷ past)
 
 -- any frame: 1 or 2 by its length, else as above
 unfoldable pub ruleStep : Terms → List Reached → ℕ → ℕ → Ruled
 ruleStep p past n t =
-    if not (eqb (lengthCode n) 0) then ruled (lengthCode n) past else ruleArrived p past n t
+    if not (eqb (lengthCode n) Codes.success) then ruled (lengthCode n) past else ruleArrived p past n t
 
 -- the rule for a list of steps, each with the frames that have reached the account
 abbrev pub ruleOfAccount : Terms → Machine (List Reached) StepCall ℕ

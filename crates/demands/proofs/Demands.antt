@@ -1,5 +1,6 @@
 -- The three demands, from the claims that they gather. Assumes nothing.
 use Rattle.lists.proofs.Claims.{picked-answers}
+use Rattle.codes.proofs.Claims.{code-figures}
 use Rattle.octets.proofs.Claims.{reads-back, writes-back}
 use Rattle.rows.proofs.Claims.{rows-in-use}
 use Rattle.fields.proofs.Claims.{field-reads-back, field-is-spelled, field-figures}
@@ -114,6 +115,7 @@ images =
 pub figures : Figures
 figures =
     record {
+      codes = code-figures;
       lengths = length-limits;
       payload = payload-length;
       terms = terms-limits;

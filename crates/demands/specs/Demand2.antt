@@ -1,6 +1,7 @@
 -- Demand 2: every answer is the right one. That each call's answer is document 01's is its contract, an equation with the definition
 -- that states it; here are gathered the readings of these definitions that document 01 and document 02's Q-3 settle by themselves, and
 -- the round trips. Proved in proofs/Demands.antt.
+use Rattle.codes.specs.Claims.{CodeFigures}
 use Rattle.octets.specs.Claims.{ReadsBack, WritesBack}
 use Rattle.rows.specs.Claims.{RowsInUse}
 use Rattle.fields.specs.Claims.{FieldReadsBack, FieldSpelled, FieldFigures}
@@ -64,6 +65,7 @@ pub record Images : Type 0 where
 
 -- the figures of document 01 and of Q-3: limits at both sides, the formulas of each mode, and the starred cases of the bench sheet
 pub record Figures : Type 0 where
+  pub codes : CodeFigures
   pub lengths : LengthLimits
   pub payload : PayloadLength
   pub terms : TermsLimits

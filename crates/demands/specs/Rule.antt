@@ -5,6 +5,7 @@ use mathlib.Core.Bool.{Bool, false, not, _&&_}
 use mathlib.Core.List.{List, [], map}
 use lib.ListN.{length}
 use lib.Dec.{leb, eqb}
+use Rattle.codes.specs.Codes
 use Rattle.lists.specs.Choice.{if_then_else_}
 use Rattle.lists.specs.History.{Machine, answers, leftBy, byCalls}
 use Rattle.lists.specs.Lists.{only}
@@ -36,13 +37,13 @@ linkRow s f = foundIn (linkFields s (readImage s .settings .accounts)) (readImag
 
 -- ---- the filter: the first of the codes 1 to 7 that fits a frame, or 0. By the row of its number, 4 or the codes of that link
 abbrev pub linkCode : List ℕ → Call → Found → ℕ
-linkCode s f Nowhere = 4
+linkCode s f Nowhere = Codes.unknownLink
 linkCode s f (At j) = portCode (imageLink s j) (length (f .octets)) (f .port)
 
 -- and before that by the frame alone
 unfoldable pub filterCode : List ℕ → Call → ℕ
 filterCode s f =
-    if not (eqb (frameCode (readImage s .settings .constant) (f .octets)) 0) then frameCode (readImage s .settings .constant) (f .octets)
+    if not (eqb (frameCode (readImage s .settings .constant) (f .octets)) Codes.success) then frameCode (readImage s .settings .constant) (f .octets)
     else linkCode s f (linkRow s f)
 
 -- ---- for which account a frame is meant: the one that the image's link of its number names
@@ -59,7 +60,7 @@ meant s a f = leb destinationOctets (length (f .octets)) && names s a (linkRow s
 
 -- ---- which frames reached an account. The filter lets a frame pass to the account for which it is meant
 abbrev pub passing : List ℕ → ℕ → Call → Bool
-passing s a f = meant s a f && eqb (filterCode s f) 0
+passing s a f = meant s a f && eqb (filterCode s f) Codes.success
 
 -- what the account sees of it
 abbrev pub stepCallOf : Call → StepCall
@@ -78,7 +79,7 @@ accountNamed s (At j) = imageLink s j .account
 -- the filter's code; else, from the frames that reached the account: late by the last of them, or forwarded or short by the rule
 unfoldable pub ruleCode : List ℕ → List Call → Call → ℕ
 ruleCode s past f =
-    if not (eqb (filterCode s f) 0) then filterCode s f
+    if not (eqb (filterCode s f) Codes.success) then filterCode s f
     else ruleArrived (imageTerms s (accountNamed s (linkRow s f))) (reachedIn s past (accountNamed s (linkRow s f))) (length (f .octets)) (f .time) .code
 
 -- the rule as a machine whose state is the past, and the codes of a history by it

@@ -33,9 +33,18 @@ fn numbers(outcome: Outcome) -> StepNumbers
     ensures { λ r. ⌜ r ≡ stepSays (stepReported outcome) ⌝ }
 {
     match outcome {
-        Outcome::Forwarded(credit) => StepNumbers { code: 0, credit },
-        Outcome::Short(credit) => StepNumbers { code: 9, credit },
-        Outcome::Late(credit) => StepNumbers { code: 8, credit },
+        Outcome::Forwarded(credit) => StepNumbers {
+            code: codes::SUCCESS,
+            credit,
+        },
+        Outcome::Short(credit) => StepNumbers {
+            code: codes::SHORT,
+            credit,
+        },
+        Outcome::Late(credit) => StepNumbers {
+            code: codes::LATE,
+            credit,
+        },
         Outcome::Refused(code) => StepNumbers { code, credit: 0 },
     }
 }

@@ -21,17 +21,17 @@ fn numbers(verdict: Verdict) -> CallNumbers
 {
     match verdict {
         Verdict::Forwarded { mask, credit } => CallNumbers {
-            code: 0,
+            code: codes::SUCCESS,
             mask,
             credit,
         },
         Verdict::Short(credit) => CallNumbers {
-            code: 9,
+            code: codes::SHORT,
             mask: 0,
             credit,
         },
         Verdict::Late(credit) => CallNumbers {
-            code: 8,
+            code: codes::LATE,
             mask: 0,
             credit,
         },

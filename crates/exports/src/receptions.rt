@@ -13,7 +13,7 @@ fn network_of(number: u8) -> Network
     if number == 0 { Network::A } else { Network::B }
 }
 
-// A frame that comes in on a link and a network: the number of its answer; the link's record changes in place.
+// A frame that comes in on a link and a network: the number of its answer; the link's memory changes in place.
 #[no_mangle]
 pub extern "C" fn ashthulgo_receive(
     link: u16,

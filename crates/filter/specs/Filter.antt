@@ -5,6 +5,7 @@ use mathlib.Core.Bool.{not}
 use mathlib.Core.List.{List}
 use lib.ListN.{length}
 use lib.Dec.{ltb, eqb}
+use Rattle.codes.specs.Codes
 use Rattle.lists.specs.Choice.{if_then_else_}
 use Rattle.frame.specs.Frame.{lengthCode, constantField, linkNumber}
 use Rattle.tables.specs.Rows.{linkTable, linkIn, found}
@@ -17,25 +18,25 @@ use Rattle.filter.specs.declared.Route.the-variants.{Stopped, OnLink}
 -- by the frame alone: the first of 1, 2 and 3 that fits, or 0
 unfoldable pub frameCode : ℕ → List ℕ → ℕ
 frameCode constant f =
-    if not (eqb (lengthCode (length f)) 0) then lengthCode (length f)
-    else if not (eqb (constantField f) constant) then 3
-    else 0
+    if not (eqb (lengthCode (length f)) Codes.success) then lengthCode (length f)
+    else if not (eqb (constantField f) constant) then Codes.otherConstant
+    else Codes.success
 
 -- by the link, for a frame of n octets on a port: the first of 5, 6 and 7 that fits, or 0
 unfoldable pub portCode : Link → ℕ → ℕ → ℕ
 portCode l n port =
-    if not (eqb port (l .port)) then 5
-    else if ltb n (l .smallest) then 6
-    else if ltb (l .largest) n then 7
-    else 0
+    if not (eqb port (l .port)) then Codes.otherPort
+    else if ltb n (l .smallest) then Codes.belowSmallest
+    else if ltb (l .largest) n then Codes.aboveLargest
+    else Codes.success
 
 -- by the row that has the frame's number: 4 where there is none, else its link
 abbrev pub routeTo : List ℕ → Found → Route
-routeTo links Nowhere = Stopped 4
+routeTo links Nowhere = Stopped Codes.unknownLink
 routeTo links (At j) = OnLink (linkIn (linkTable links) j)
 
 -- what comes before the account: 1, 2 or 3, else 4 or the link of the first row in use that has the number
 unfoldable pub routed : List ℕ → ℕ → List ℕ → ℕ → Route
 routed f constant links count =
-    if not (eqb (frameCode constant f) 0) then Stopped (frameCode constant f)
+    if not (eqb (frameCode constant f) Codes.success) then Stopped (frameCode constant f)
     else routeTo links (found links count (linkNumber f))

@@ -5,17 +5,6 @@ ghost use Rattle.filter.specs.Filter.{frameCode, portCode, routed};
 use tables::Link;
 use tables::Lookup;
 
-// Codes 3, 4, 5, 6 and 7; 1 and 2 are frame's.
-const OTHER_CONSTANT: u8 = 3;
-
-const UNKNOWN_LINK: u8 = 4;
-
-const OTHER_PORT: u8 = 5;
-
-const TOO_SMALL: u8 = 6;
-
-const TOO_LARGE: u8 = 7;
-
 // What is found before the account is looked at: a refusal's code, or the link.
 pub enum Route {
     Stopped(u8),
@@ -31,9 +20,9 @@ pub fn frame_code(frame: &[u8], constant: u32) -> u8
         return frame::length_code(octets);
     }
     if frame::constant_field(frame) != constant {
-        return OTHER_CONSTANT;
+        return codes::OTHER_CONSTANT;
     }
-    0
+    codes::SUCCESS
 }
 
 // The link of a frame, or the code that stops it before: 1, 2, 3 or 4.
@@ -41,13 +30,13 @@ pub fn find_link(frame: &[u8], constant: u32, links: &[u8], count: usize) -> Rou
     ensures { λ r. ⌜ r ≡ routed (now (frame .entry)) constant (now (links .entry)) count ⌝ }
 {
     let code = frame_code(frame, constant);
-    if code != 0 {
+    if code != codes::SUCCESS {
         return Route::Stopped(code);
     }
     let number = frame::link_number(frame);
     let lookup = tables::look_up(links, count, number);
     match lookup {
-        Lookup::Absent => Route::Stopped(UNKNOWN_LINK),
+        Lookup::Absent => Route::Stopped(codes::UNKNOWN_LINK),
         Lookup::Present(link) => Route::OnLink(link),
     }
 }
@@ -57,13 +46,13 @@ pub fn port_code(link: Link, octets: usize, port: u32) -> u8
     ensures { λ r. ⌜ r ≡ portCode link octets port ⌝ }
 {
     if port != link.port as u32 {
-        return OTHER_PORT;
+        return codes::OTHER_PORT;
     }
     if octets < link.smallest as usize {
-        return TOO_SMALL;
+        return codes::BELOW_SMALLEST;
     }
     if (link.largest as usize) < octets {
-        return TOO_LARGE;
+        return codes::ABOVE_LARGEST;
     }
-    0
+    codes::SUCCESS
 }

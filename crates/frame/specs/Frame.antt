@@ -3,6 +3,7 @@ use Prim.Native.Nat.{ℕ, _+_, _-_}
 use mathlib.Core.List.{List, []}
 use lib.ListN.{length, getD, take, drop}
 use lib.Dec.{ltb, eqb}
+use Rattle.codes.specs.Codes
 use Rattle.lists.specs.Choice.{if_then_else_}
 use Rattle.octets.specs.Numbers.{numberAt}
 use Rattle.frame.specs.Limits.{smallestFrame, largestFrame}
@@ -10,7 +11,7 @@ use Rattle.frame.specs.declared.Header.{Header}
 
 -- the code that a length gets ("Codes, in order of checking", 1 and 2); 0 where neither fits
 unfoldable pub lengthCode : ℕ → ℕ
-lengthCode n = if ltb n smallestFrame then 1 else if ltb largestFrame n then 2 else 0
+lengthCode n = if ltb n smallestFrame then Codes.tooShort else if ltb largestFrame n then Codes.tooLong else Codes.success
 
 -- octets 0 to 3
 abbrev pub constantField : List ℕ → ℕ
@@ -33,8 +34,8 @@ sequenceNumber f = getD f (sequenceOffset f) 0
 -- frame reading: the code, the link and the sequence number; zeros after a refusal
 unfoldable pub headerOf : List ℕ → Header
 headerOf f =
-    if eqb (lengthCode (length f)) 0
-    then record { code = 0; link = linkNumber f; sequence = sequenceNumber f }
+    if eqb (lengthCode (length f)) Codes.success
+    then record { code = Codes.success; link = linkNumber f; sequence = sequenceNumber f }
     else record { code = lengthCode (length f); link = 0; sequence = 0 }
 
 -- the payload starts after the two addresses and the type
@@ -44,11 +45,11 @@ payloadStart = 14
 -- the payload: from there to the octet before the sequence number; none after a refusal
 unfoldable pub payloadOf : List ℕ → List ℕ
 payloadOf f =
-    if eqb (lengthCode (length f)) 0
+    if eqb (lengthCode (length f)) Codes.success
     then take (sequenceOffset f - payloadStart) (drop payloadStart f)
     else []
 
 -- where the payload stands, as a block of memory and an offset in it: that far into the frame, or where the frame itself
 -- starts after a refusal
 unfoldable pub payloadPlace : ℕ × ℕ → List ℕ → ℕ × ℕ
-payloadPlace p f = if eqb (lengthCode (length f)) 0 then (p .0, payloadStart + p .1) else p
+payloadPlace p f = if eqb (lengthCode (length f)) Codes.success then (p .0, payloadStart + p .1) else p

@@ -15,11 +15,6 @@ const PAYLOAD_START: usize = 14;
 
 const SEQUENCE_FROM_END: usize = 5;
 
-// Codes 1 and 2.
-const TOO_SHORT: u8 = 1;
-
-const TOO_LONG: u8 = 2;
-
 // What a frame says besides its payload: the code of reading it, its virtual link and its sequence number.
 pub struct Header {
     pub code: u8,
@@ -32,12 +27,12 @@ pub fn length_code(octets: usize) -> u8
     ensures { λ r. ⌜ r ≡ lengthCode octets ⌝ }
 {
     if octets < SMALLEST_FRAME {
-        return TOO_SHORT;
+        return codes::TOO_SHORT;
     }
     if LARGEST_FRAME < octets {
-        return TOO_LONG;
+        return codes::TOO_LONG;
     }
-    0
+    codes::SUCCESS
 }
 
 // Whether a frame can have so many octets: whether that code is 0.
@@ -70,7 +65,7 @@ pub fn head(frame: &[u8]) -> Header
 {
     let n = frame.len();
     let code = length_code(n);
-    if code != 0 {
+    if code != codes::SUCCESS {
         return Header {
             code,
             link: 0,
@@ -78,7 +73,7 @@ pub fn head(frame: &[u8]) -> Header
         };
     }
     Header {
-        code: 0,
+        code: codes::SUCCESS,
         link: link_number(frame),
         sequence: octets::octet_at(frame, n - SEQUENCE_FROM_END),
     }
@@ -90,7 +85,7 @@ pub fn payload(frame: &[u8]) -> &[u8]
     ensures { λ r. ⌜ ptr r ≡ payloadPlace (ptr (frame .entry)) (now (frame .entry)) ⌝ }
 {
     let n = frame.len();
-    if length_code(n) != 0 {
+    if length_code(n) != codes::SUCCESS {
         return &frame[0..0];
     }
     let end = n - SEQUENCE_FROM_END;

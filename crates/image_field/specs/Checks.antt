@@ -4,6 +4,7 @@ use mathlib.Core.Bool.{Bool, true, false, not, _&&_, _||_}
 use mathlib.Core.List.{List}
 use lib.ListN.{getD}
 use lib.Dec.{leb, eqb}
+use Rattle.codes.specs.Codes
 use Rattle.lists.specs.Choice.{if_then_else_}
 use Rattle.rows.specs.Rows.{Rows}
 use Rattle.tables.specs.Rows.{accountOctets, linkOctets}
@@ -16,13 +17,13 @@ use Rattle.image_layout.specs.Layout.{headTag, accountTag, linkTag, endTag, edi
 -- room for the data, 24 for one field too many, 23 for a value
 unfoldable pub fieldCode : Field → Bool → ℕ → Bool → Bool → ℕ
 fieldCode f order size full good =
-    if not (f .headed) then 20
-    else if not order then 21
-    else if not (eqb (f .size) size) then 22
-    else if not (f .whole) then 20
-    else if full then 24
-    else if not good then 23
-    else 0
+    if not (f .headed) then Codes.cut
+    else if not order then Codes.wrongTag
+    else if not (eqb (f .size) size) then Codes.wrongLength
+    else if not (f .whole) then Codes.cut
+    else if full then Codes.badCount
+    else if not good then Codes.badValue
+    else Codes.success
 
 -- ---- the head: its edition, and the constant field
 unfoldable pub headGood : List ℕ → Bool

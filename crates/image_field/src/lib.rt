@@ -3,7 +3,6 @@
 ghost use mathlib.Core.Path.{_≡_};
 ghost use Rattle.image_field.specs.Checks.{fieldCode, headGood, headCode, inOrder, dataOctets, isFull, valuesGood, nextCode};
 use fields::Field;
-use image_layout::codes;
 
 // The code of a field, or 0: of the octets left, the tag, the length, the data, the limit and the values.
 fn field_code(field: Field, order: bool, size: usize, full: bool, good: bool) -> u8
@@ -24,7 +23,11 @@ fn field_code(field: Field, order: bool, size: usize, full: bool, good: bool) ->
     if full {
         return codes::BAD_COUNT;
     }
-    if good { 0 } else { codes::BAD_VALUE }
+    if good {
+        codes::SUCCESS
+    } else {
+        codes::BAD_VALUE
+    }
 }
 
 // Whether the head has the edition and a constant field of the right form.

@@ -4,8 +4,6 @@ ghost use Rattle.image_layout.specs.Layout.{accountSize, linkSize, field
 ghost use Rattle.rows.specs.Rows.{spacing};
 use rows::Spacing;
 
-pub mod codes;
-
 // The tags, and the only edition.
 pub const HEAD_TAG: u8 = 1;
 

@@ -5,6 +5,7 @@ use mathlib.Core.Bool.{Bool, not, _&&_}
 use mathlib.Core.List.{List}
 use lib.ListN.{length}
 use lib.Dec.{leb, eqb}
+use Rattle.codes.specs.Codes
 use Rattle.lists.specs.Choice.{if_then_else_}
 use Rattle.tables.specs.Rows.{accountOctets, linkOctets}
 use Rattle.image_read.specs.Read.{imageRefused, readImage}
@@ -30,15 +31,15 @@ longEnough n m r = runsHold n m (length (r .accounts)) (length (r .credits)) (le
 -- the answer, by the lengths of the runs: 26 only when all is well
 unfoldable pub loadAnswer : List ℕ → ℕ → ℕ → ℕ → ℕ → ImageAnswer
 loadAnswer s accounts credits lasts links =
-    if not (eqb (readImage s .code) 0) then readImage s
+    if not (eqb (readImage s .code) Codes.success) then readImage s
     else if runsHold (readImage s .settings .accounts) (readImage s .settings .links) accounts credits lasts links then readImage s
-    else imageRefused 26 (length s)
+    else imageRefused Codes.noRoom (length s)
 
 abbrev pub answerFor : List ℕ → Runs → ImageAnswer
 answerFor s r = loadAnswer s (length (r .accounts)) (length (r .credits)) (length (r .lasts)) (length (r .links))
 
 unfoldable pub loading : List ℕ → Runs → Loading
 loading s r =
-    if eqb (answerFor s r .code) 0
+    if eqb (answerFor s r .code) Codes.success
     then loadingOf (answerFor s r) (filled s (answerFor s r .settings .accounts) (answerFor s r .settings .links) r)
     else loadingOf (answerFor s r) r

@@ -2,7 +2,6 @@
 ghost use mathlib.Core.Path.{_≡_};
 ghost use Rattle.image_load.specs.Loading.{runsHold, loadAnswer, loadingOf, loading};
 ghost use Rattle.image_fill.specs.Filling.{runsOf};
-use image_layout::codes;
 use image_read::ImageAnswer;
 
 // Whether runs of these lengths hold so many accounts and links.
@@ -32,7 +31,7 @@ fn load_answer(
     ensures { λ r. ⌜ r ≡ loadAnswer (now (image .entry)) accounts credits lasts links ⌝ }
 {
     let answer = image_read::check(image);
-    if answer.code != 0 {
+    if answer.code != codes::SUCCESS {
         return answer;
     }
     if runs_hold(

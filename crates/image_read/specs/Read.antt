@@ -4,6 +4,7 @@ use mathlib.Core.Bool.{Bool, not, _&&_}
 use mathlib.Core.List.{List}
 use lib.ListN.{length}
 use lib.Dec.{ltb, eqb}
+use Rattle.codes.specs.Codes
 use Rattle.lists.specs.Choice.{if_then_else_}
 use Rattle.lists.specs.Leading.{leading}
 use Rattle.tables.specs.Rows.{settingsOf}
@@ -13,7 +14,7 @@ use Rattle.image_field.specs.Checks.{headCode, nextCode, tagAt}
 
 -- ---- how many accounts stand after the head, and how many links after them, each of the tag and well
 unfoldable pub goodField : List ℕ → ℕ → ℕ → ℕ → Bool
-goodField s tag n m = eqb (tagAt s n m) tag && eqb (nextCode s n m) 0
+goodField s tag n m = eqb (tagAt s n m) tag && eqb (nextCode s n m) Codes.success
 
 unfoldable pub goodAccounts : List ℕ → ℕ
 goodAccounts s = leading (λ i. goodField s accountTag i 0) maxAccounts
@@ -28,11 +29,11 @@ imageRefused code offset = record { code = code; offset = offset; settings = set
 -- the field after n accounts and m links ends the reading: it is refused, or it is the end
 unfoldable pub readEnd : List ℕ → ℕ → ℕ → ImageAnswer
 readEnd s n m =
-    if not (eqb (nextCode s n m) 0) then imageRefused (nextCode s n m) (fieldOffset n m)
-    else if ltb (imageLength n m) (length s) then imageRefused 25 (imageLength n m)
-    else record { code = 0; offset = length s; settings = settingsOf (constantOf s) n m }
+    if not (eqb (nextCode s n m) Codes.success) then imageRefused (nextCode s n m) (fieldOffset n m)
+    else if ltb (imageLength n m) (length s) then imageRefused Codes.surplus (imageLength n m)
+    else record { code = Codes.success; offset = length s; settings = settingsOf (constantOf s) n m }
 
 unfoldable pub readImage : List ℕ → ImageAnswer
 readImage s =
-    if not (eqb (headCode s) 0) then imageRefused (headCode s) 0
+    if not (eqb (headCode s) Codes.success) then imageRefused (headCode s) 0
     else readEnd s (goodAccounts s) (goodLinks s (goodAccounts s))

@@ -4,7 +4,6 @@ ghost use Rattle.image_read.specs.Read.{goodAccounts, goodLinks, readEnd
 use super::ImageAnswer;
 use super::field;
 use super::refused;
-use image_layout::codes;
 use tables::Settings;
 
 // The accounts after the head, up to the first field that is none or is refused.
@@ -43,7 +42,7 @@ pub(crate) fn read_end(image: &[u8], accounts: u16, links: u16) -> ImageAnswer
     ensures { λ r. ⌜ r ≡ readEnd (now (image .entry)) accounts links ⌝ }
 {
     let code = image_field::next_code(image, accounts, links);
-    if code != 0 {
+    if code != codes::SUCCESS {
         return refused(code, image_layout::field_offset(accounts, links));
     }
     let end = image_layout::data_offset(accounts, links);
@@ -56,7 +55,7 @@ pub(crate) fn read_end(image: &[u8], accounts: u16, links: u16) -> ImageAnswer
         links: links as usize,
     };
     ImageAnswer {
-        code: 0,
+        code: codes::SUCCESS,
         offset: image.len(),
         settings,
     }

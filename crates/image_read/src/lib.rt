@@ -36,7 +36,7 @@ pub fn check(image: &[u8]) -> ImageAnswer
     ensures { λ r. ⌜ r ≡ readImage (now (image .entry)) ⌝ }
 {
     let code = image_field::head_code(image);
-    if code != 0 {
+    if code != codes::SUCCESS {
         return refused(code, 0);
     }
     let accounts = count::count_accounts(image);

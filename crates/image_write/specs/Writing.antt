@@ -4,6 +4,7 @@ use mathlib.Core.Bool.{Bool, not, _&&_}
 use mathlib.Core.List.{List}
 use lib.ListN.{length}
 use lib.Dec.{ltb, leb, eqb}
+use Rattle.codes.specs.Codes
 use Rattle.lists.specs.Choice.{if_then_else_}
 use Rattle.octets.specs.Runs.{put}
 use Rattle.lists.specs.Leading.{leading}
@@ -32,17 +33,17 @@ writtenOf code offset = record { code = code; offset = offset }
 -- 23 with the offset that the first bad field would have, the constant field's first; else the length of the image
 unfoldable pub valueAnswer : Config → Written
 valueAnswer g =
-    if not (constantGood (g .constant)) then writtenOf 23 0
-    else if ltb (badAccount g) (g .accountCount) then writtenOf 23 (fieldOffset (badAccount g) 0)
-    else if ltb (badLink g) (g .linkCount) then writtenOf 23 (fieldOffset (g .accountCount) (badLink g))
-    else writtenOf 0 (imageLength (g .accountCount) (g .linkCount))
+    if not (constantGood (g .constant)) then writtenOf Codes.badValue 0
+    else if ltb (badAccount g) (g .accountCount) then writtenOf Codes.badValue (fieldOffset (badAccount g) 0)
+    else if ltb (badLink g) (g .linkCount) then writtenOf Codes.badValue (fieldOffset (g .accountCount) (badLink g))
+    else writtenOf Codes.success (imageLength (g .accountCount) (g .linkCount))
 
 -- 24, then 23, then 26 for a room of this length
 unfoldable pub writeAnswer : Config → ℕ → Written
 writeAnswer g room =
-    if not (countsGood (g .accounts) (g .accountCount) (g .links) (g .linkCount)) then writtenOf 24 0
-    else if not (eqb (valueAnswer g .code) 0) then valueAnswer g
-    else if ltb room (imageLength (g .accountCount) (g .linkCount)) then writtenOf 26 0
+    if not (countsGood (g .accounts) (g .accountCount) (g .links) (g .linkCount)) then writtenOf Codes.badCount 0
+    else if not (eqb (valueAnswer g .code) Codes.success) then valueAnswer g
+    else if ltb room (imageLength (g .accountCount) (g .linkCount)) then writtenOf Codes.noRoom 0
     else valueAnswer g
 
 -- an answer, and the room beside it
@@ -56,6 +57,6 @@ writingOf q d = record { answer = q; room = d }
 -- a refusal writes nothing; success writes the image at the room's start
 unfoldable pub writing : Config → List ℕ → Writing
 writing g d =
-    if eqb (writeAnswer g (length d) .code) 0
+    if eqb (writeAnswer g (length d) .code) Codes.success
     then writingOf (writeAnswer g (length d)) (put d 0 (imageOf g))
     else writingOf (writeAnswer g (length d)) d

@@ -5,8 +5,6 @@ ghost use Rattle.image_write.specs.Writing.{countGood, countsGood, write
 
 mod values;
 
-use image_layout::codes;
-
 // What writing answers: the code, and the length of the image or the offset that a bad field would have had.
 pub struct Written {
     pub code: u8,
@@ -65,7 +63,7 @@ fn write_answer(
         };
     }
     let answer = values::value_answer(constant, accounts, n as u16, links, m as u16);
-    if answer.code != 0 {
+    if answer.code != codes::SUCCESS {
         return answer;
     }
     if room < image_layout::data_offset(n as u16, m as u16) {
@@ -97,7 +95,7 @@ pub fn write(
         link_count,
         room.len(),
     );
-    if answer.code != 0 {
+    if answer.code != codes::SUCCESS {
         return answer;
     }
     image_octets::put_image(

@@ -6,7 +6,6 @@ ghost use Rattle.tables_rules.specs.Rules.{accountGood, linkGood};
 ghost use Rattle.lists.specs.Leading.{leading};
 ghost use Rattle.image_write.specs.Writing.{valueAnswer};
 use super::Written;
-use image_layout::codes;
 use rows::Spacing;
 
 // Rows of accounts and of links that touch.
@@ -81,7 +80,7 @@ pub(crate) fn value_answer(constant: u32, accounts: &[u8], n: u16, links: &[u8],
         };
     }
     Written {
-        code: 0,
+        code: codes::SUCCESS,
         offset: image_layout::data_offset(n, m),
     }
 }

@@ -90,12 +90,12 @@ rows-beyond rows words rows′ words′ link n same =
     (λ j h. number-in rows j ∙ same j h ∙ sym (number-in rows′ j))
     ∙ ap (λ (m : ℕ). foundIn (tableOf skewRowOctets rows′) m link) n
 
--- its record is lent whole
+-- its memory is lent whole
 pub memory-whole : (rows : List ℕ) (words link j : ℕ) → rowFound rows words link ≡ At j → memoryWords * j + memoryWords ≤ words
 memory-whole rows words link j e =
     memory-in-run (length rows) words _ refl j (row-is-first rows words link j e .0)
 
--- ---- the records left
+-- ---- the memories left
 pub only-memory : (r : List ℕ) (j : ℕ) (f : Arrival) (a : Reception) → f .number < numberCount → OnlyMemory j r (memoryAfter r j f a)
 only-memory r j f a h =
     kept-left (λ s t. OnlyMemory j r s) j j
@@ -131,7 +131,7 @@ time-and-number-stored rows r f j e =
     rw (call-at rows r f j e)
     (λ p. both-kept r j f (memory-whole rows (length r) (f .link) j e) (answerBy (skewIn rows j) r j f) p (known (skewIn rows j) r j f))
 
--- ---- two records that are the same
+-- ---- two memories that are the same
 module _ (r : List ℕ) (j : ℕ) (s : List ℕ) (i : ℕ) (f : Arrival) (h : f .number < numberCount) (same : SameMemory r j s i) where
   pub same-answer : (skew : ℕ) → answerBy skew r j f ≡ answerBy skew s i f
   unfolding answerBy

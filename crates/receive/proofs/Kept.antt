@@ -1,4 +1,4 @@
--- Laws of what an answer leaves: what a record then says. Assumes nothing.
+-- Laws of what an answer leaves: what a memory then says. Assumes nothing.
 use Prim.Native.Nat.{ℕ, _+_, _*_, _≤_, _<_}
 use mathlib.Core.List.{List}
 use mathlib.Core.Option.{none, some}
@@ -18,7 +18,7 @@ use Rattle.receive_sequence.proofs.Passing.{number-some}
 use Rattle.receive_answer.proofs.Answer.{delivery-none, delivery-some}
 use Rattle.receive.proofs.Words.{index-low, number-inside, awaiting-inside, delivered-inside, length-store, word-same, word-other, word-beside}
 
--- ---- whatever every store inside a record keeps, an answer keeps; of two records at once
+-- ---- whatever every store inside a memory keeps, an answer keeps; of two memories at once
 module _ (P : List ℕ → List ℕ → Type 0) (j i : ℕ)
     (step : (s t : List ℕ) (k v : ℕ) → k < memoryWords → P s t → P (store s j k v) (store t i k v)) where
   kept-noted : (r s : List ℕ) (f : Arrival) → P r s → P (noted r j f) (noted s i f)
@@ -42,7 +42,7 @@ module _ (P : List ℕ → List ℕ → Type 0) (j i : ℕ)
   kept-left r s f h Copy p = kept-met _ _ (other (f .network)) (f .number) h (kept-noted r s f p)
   kept-left r s f h Delivered p = kept-delivered _ _ f h (kept-noted r s f p)
 
--- ---- what the record says once a frame's time and number are noted
+-- ---- what the memory says once a frame's time and number are noted
 length-noted : (r : List ℕ) (j : ℕ) (f : Arrival) → length (noted r j f) ≡ length r
 unfolding noted
 length-noted r j f = length-store (store r j timeWord (f .time)) j _ _ ∙ length-store r j timeWord (f .time)
@@ -136,7 +136,7 @@ module _ (r : List ℕ) (j : ℕ) (f : Arrival) where
       (delivered-elsewhere (awaitingWord y m) d (λ e. omega arith))
       (delivered-elsewhere (deliveredWord y m) (λ e. omega arith) (λ e. d (omega arith)))
 
--- ---- the records of other rows
+-- ---- the memories of other rows
 pub left-beside : (r : List ℕ) (j : ℕ) (f : Arrival) (a : Reception) → f .number < numberCount → (i : ℕ) → (i ≡ j → ⊥) → SameMemory (memoryAfter r j f a) i r i
 left-beside r j f a h i d =
     kept-left (λ s t. SameMemory s i r i) j j

@@ -1,4 +1,4 @@
--- Laws of records: words read and stored, rows in use. Assumes nothing.
+-- Laws of memories: words read and stored, rows in use. Assumes nothing.
 use Prim.Native.Nat.{ℕ, _+_, _*_, _/_, _≤_, _<_}
 use mathlib.Core.List.{List}
 use mathlib.Core.Path.{_≡_, refl}
@@ -11,7 +11,7 @@ use Rattle.receive_answer.specs.declared.Network.{Network}
 use Rattle.receive_answer.specs.declared.Network.the-variants.{A, B}
 use Rattle.receive.specs.Lent.{index, skewRowOctets, memoryWords, rowsInUse, numberWord, awaitingWord, word, store}
 
--- ---- offsets lie in a record
+-- ---- offsets lie in a memory
 pub index-low : (x : Network) → index x < 2
 index-low A = omega arith
 index-low B = omega arith
@@ -52,7 +52,7 @@ module _ (octets words n : ℕ) (e : n ≡ rowsInUse octets words) where
       let d = div-mul-le-self words memoryWords in
       omega arith
 
--- ---- a word read where another was stored. In the same record
+-- ---- a word read where another was stored. In the same memory
 pub word-same : (r : List ℕ) (j k v : ℕ) → memoryWords * j + memoryWords ≤ length r → k < memoryWords → word (store r j k v) j k ≡ v
 unfolding word store
 word-same r j k v h l = getD-set-same r (memoryWords * j + k) v 0 (omega arith)
@@ -61,12 +61,12 @@ pub word-other : (r : List ℕ) (j k m v : ℕ) → (m ≡ k → ⊥) → word (
 unfolding word store
 word-other r j k m v d = getD-set-other r (memoryWords * j + k) (memoryWords * j + m) v 0 (λ e. d (omega arith))
 
--- in another record
+-- in another memory
 pub word-beside : (r : List ℕ) (j k i m v : ℕ) → (i ≡ j → ⊥) → k < memoryWords → m < memoryWords → word (store r j k v) i m ≡ word r i m
 unfolding word store
 word-beside r j k i m v d h l = getD-set-other r (memoryWords * j + k) (memoryWords * i + m) v 0 (λ e. d (omega arith))
 
--- outside the record
+-- outside the memory
 pub outside-before : (r : List ℕ) (j k i v : ℕ) → i < memoryWords * j → getD (store r j k v) i 0 ≡ getD r i 0
 unfolding store
 outside-before r j k i v h = getD-set-other r (memoryWords * j + k) i v 0 (λ e. omega arith)

@@ -1,4 +1,4 @@
--- What holds of one call of the receiving end for any rows and records whatsoever (document 02, Q-1); proved in proofs/Claims.antt.
+-- What holds of one call of the receiving end for any rows and memories whatsoever (document 02, Q-1); proved in proofs/Claims.antt.
 use Prim.Native.Nat.{ℕ, _+_, _*_, _≤_, _<_}
 use mathlib.Core.List.{List, [], _∷_, List·Memᴰ}
 use mathlib.Core.Logic.{_⊎_, _↔_}
@@ -48,7 +48,7 @@ SkewRowsBeyondUnread =
     → ((j : ℕ) → j < rowsInUse (length rows) words → numberAt 2 rows (skewRowOctets * j) ≡ numberAt 2 rows′ (skewRowOctets * j))
     → rowFound rows words link ≡ rowFound rows′ words′ link
 
--- ---- of a call whose link has row j: only record j may change
+-- ---- of a call whose link has row j: only memory j may change
 pub record OnlyMemory (j : ℕ) (r s : List ℕ) : Type 0 where
   pub long : length s ≡ length r
   pub before : (i : ℕ) → i < memoryWords * j → getD s i 0 ≡ getD r i 0
@@ -65,7 +65,7 @@ TimeAndNumberStored =
     (rows r : List ℕ) (f : Arrival) (j : ℕ) → rowFound rows (length r) (f .link) ≡ At j → (received rows r f .says ≡ Late → ⊥)
     → (latestTime (received rows r f .memory) j ≡ f .time) × (lastNumber (received rows r f .memory) j (f .network) ≡ some (f .number))
 
--- nothing but the link's SkewMax and its record plays a part
+-- nothing but the link's SkewMax and its memory plays a part
 abbrev pub SameMemory : List ℕ → ℕ → List ℕ → ℕ → Type 0
 SameMemory r j s i = (k : ℕ) → k < memoryWords → word r j k ≡ word s i k
 

@@ -1,4 +1,4 @@
--- What a receiving end is lent (document 02, Q-1): a row for each link and, in a run of their own, a record for each row in use. The
+-- What a receiving end is lent (document 02, Q-1): a row for each link and, in a run of their own, a memory for each row in use. The
 -- papers leave their form open; it is stated here.
 use Prim.Native.Nat.{ℕ, _+_, _*_, _/_}
 use mathlib.Core.List.{List}
@@ -25,12 +25,12 @@ skewRowOctets = 6
 unfoldable pub skewIn : List ℕ → ℕ → ℕ
 skewIn rows j = numberAt 4 rows (skewRowOctets * j + 2)
 
--- a record, in words of 64 bits: the link's last time, the last number on each network, and for each network and number two words,
+-- a memory, in words of 64 bits: the link's last time, the last number on each network, and for each network and number two words,
 -- for the delivery that may await its copy; 3 + 2 × 256 × 2
 abbrev pub memoryWords : ℕ
 memoryWords = 1027
 
--- rows in use: those of which row and record are lent whole
+-- rows in use: those of which row and memory are lent whole
 unfoldable pub rowsInUse : ℕ → ℕ → ℕ
 rowsInUse octets words = inUse skewRowOctets octets (words / memoryWords)
 
@@ -38,14 +38,14 @@ rowsInUse octets words = inUse skewRowOctets octets (words / memoryWords)
 unfoldable pub rowFound : List ℕ → ℕ → ℕ → Found
 rowFound rows words link = foundIn (tableOf skewRowOctets rows) (rowsInUse (length rows) words) link
 
--- ---- word k of record j, and that word stored
+-- ---- word k of memory j, and that word stored
 unfoldable pub word : List ℕ → ℕ → ℕ → ℕ
 word r j k = getD r (memoryWords * j + k) 0
 
 unfoldable pub store : List ℕ → ℕ → ℕ → ℕ → List ℕ
 store r j k v = set r (memoryWords * j + k) v
 
--- ---- a record's words. All are 0 in an empty record
+-- ---- a memory's words. All are 0 in an empty memory
 abbrev pub timeWord : ℕ
 timeWord = 0
 
@@ -58,7 +58,7 @@ awaitingWord x n = 3 + 512 * index x + 2 * n
 abbrev pub deliveredWord : Network → ℕ → ℕ
 deliveredWord x n = 4 + 512 * index x + 2 * n
 
--- ---- what record j says: the link's last time, the last number received on a network, the time of the delivery of n on a network
+-- ---- what memory j says: the link's last time, the last number received on a network, the time of the delivery of n on a network
 -- that awaits its copy
 abbrev pub latestTime : List ℕ → ℕ → ℕ
 latestTime r j = word r j timeWord

@@ -1,4 +1,4 @@
--- The receiving end's call (document 02, Q-1): what it answers and the records that it leaves, for any rows and records whatsoever.
+-- The receiving end's call (document 02, Q-1): what it answers and the memories that it leaves, for any rows and memories whatsoever.
 use Prim.Native.Nat.{ℕ}
 use mathlib.Core.List.{List}
 use lib.ListN.{length}
@@ -10,7 +10,7 @@ use Rattle.receive_answer.specs.declared.Reception.the-variants.{Delivered, Cop
 use Rattle.receive.specs.Lent.{skewIn, rowFound, latestTime, lastNumber, awaiting, noted, met, delivered}
 use Rattle.receive_answer.specs.Answer.{receptionBy, other}
 
--- ---- what an answer leaves in record j: the two refusals nothing; any other keeps the number and the time; a copy is then met by the
+-- ---- what an answer leaves in memory j: the two refusals nothing; any other keeps the number and the time; a copy is then met by the
 -- delivery that it belongs to, and a delivery awaits its copy
 abbrev pub memoryAfter : List ℕ → ℕ → Arrival → Reception → List ℕ
 memoryAfter r j f UnknownLink = r
@@ -21,7 +21,7 @@ memoryAfter r j f Delivered = delivered (noted r j f) j f
 
 -- ---- the call
 
--- what it answers, and the records that it leaves
+-- what it answers, and the memories that it leaves
 pub record Received : Type 0 where
   pub says : Reception
   pub memory : List ℕ
@@ -29,7 +29,7 @@ pub record Received : Type 0 where
 abbrev pub receivedOf : Reception → List ℕ → Received
 receivedOf a r = record { says = a; memory = r }
 
--- by record j, on a link with this SkewMax
+-- by memory j, on a link with this SkewMax
 unfoldable pub answerBy : ℕ → List ℕ → ℕ → Arrival → Reception
 answerBy skew r j f =
     receptionBy skew (latestTime r j) (lastNumber r j (f .network)) (awaiting r j (other (f .network)) (f .number)) (f .number) (f .time)

@@ -1,5 +1,5 @@
-// The records, one after the other in one run of words: where a word stands, reading it, and what an answer leaves.
-// A row's record is lent whole wherever one is read or changed.
+// The memories, one after the other in one run of words: where a word stands, reading it, and what an answer leaves.
+// A row's memory is lent whole wherever one is read or changed.
 ghost use mathlib.Core.Path.{_≡_};
 ghost use Prim.Native.Nat.{_+_, _*_, _≤_, _<_};
 ghost use lib.ListN.{length};

@@ -3,6 +3,7 @@ use Prim.Native.Nat.{ℕ, _-_}
 use mathlib.Core.Bool.{Bool, true, false, not, _&&_}
 use mathlib.Core.Option.{Option, none, some}
 use lib.Dec.{leb, ltb, eqb}
+use Rattle.codes.specs.Codes
 use Rattle.lists.specs.Choice.{if_then_else_}
 use Rattle.receive_sequence.specs.Sequence.{passes}
 use Rattle.receive_answer.specs.declared.Arrival.{Arrival}
@@ -19,13 +20,13 @@ other B = A
 abbrev pub arrivalOf : ℕ → Network → ℕ → ℕ → Arrival
 arrivalOf link x n t = record { link = link; network = x; number = n; time = t }
 
--- the number of an answer. The papers number only the refusals, 4 and 8; 0 is success as in document 01, 30 and 31 are no code there
+-- the number of an answer
 abbrev pub receptionCode : Reception → ℕ
-receptionCode Delivered = 0
-receptionCode UnknownLink = 4
-receptionCode Late = 8
-receptionCode Copy = 30
-receptionCode OutOfSequence = 31
+receptionCode Delivered = Codes.success
+receptionCode UnknownLink = Codes.unknownLink
+receptionCode Late = Codes.late
+receptionCode Copy = Codes.copy
+receptionCode OutOfSequence = Codes.outOfSequence
 
 -- whether a frame was received: all answers but the refusals
 abbrev pub taken : Reception → Bool

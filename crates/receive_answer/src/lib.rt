@@ -32,11 +32,11 @@ impl Reception {
         ensures { λ r. ⌜ r ≡ receptionCode self ⌝ }
     {
         match self {
-            Reception::Delivered => 0,
-            Reception::UnknownLink => 4,
-            Reception::Late => 8,
-            Reception::Copy => 30,
-            Reception::OutOfSequence => 31,
+            Reception::Delivered => codes::SUCCESS,
+            Reception::UnknownLink => codes::UNKNOWN_LINK,
+            Reception::Late => codes::LATE,
+            Reception::Copy => codes::COPY,
+            Reception::OutOfSequence => codes::OUT_OF_SEQUENCE,
         }
     }
 
@@ -76,7 +76,7 @@ fn in_skew(skew: u32, waits: u64, delivered: u64, time: u64) -> bool
     time - delivered <= skew as u64
 }
 
-// What is answered, from the words that a record has for a frame: the link's last time, the last number on the frame's
+// What is answered, from the words that a memory has for a frame: the link's last time, the last number on the frame's
 // network, and the other network's delivery of its number.
 pub fn reception_by(
     skew: u32,

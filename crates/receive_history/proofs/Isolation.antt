@@ -1,4 +1,4 @@
--- Isolation: a link's answers and its record go by its SkewMax and its own frames. Assumes nothing.
+-- Isolation: a link's answers and its memory go by its SkewMax and its own frames. Assumes nothing.
 use Prim.Native.Nat.{ℕ, _+_, _*_, _≤_, _<_}
 use mathlib.Core.Bool.{false, false≢true}
 use mathlib.Core.List.{List}
@@ -34,7 +34,7 @@ length-call rows r f h = cases (rowFound rows (length r) (f .link)) refl
     cases Nowhere e = ap (λ (z : Received). length (z .memory)) (call-nowhere rows r f e)
     cases (At j) e = changes-own-memory rows r f h j e .long
 
--- a call on another link leaves the record of row i as it is
+-- a call on another link leaves the memory of row i as it is
 beside : (rows r : List ℕ) (link i : ℕ) → rowFound rows (length r) link ≡ At i → (f : Arrival) → f .number < numberCount → onLink link f ≡ false
     → SameMemory (received rows r f .memory) i r i
 beside rows r link i e f h off =
@@ -42,7 +42,7 @@ beside rows r link i e f h off =
     (λ q k l. refl)
     (λ j q. left-beside r j f (answerBy (skewIn rows j) r j f) h i (rows-apart rows (length r) link (f .link) i j e q (λ m. eqb-false _ _ off (sym m))))
 
--- ---- a history on records r, and its frames of one link on records s, whose record of the link is the same
+-- ---- a history on memories r, and its frames of one link on memories s, whose memory of the link is the same
 module _ (link : ℕ) (rows : List ℕ) (words j : ℕ) (e : rowFound rows words link ≡ At j)
     (rows′ : List ℕ) (words′ i : ℕ) (e′ : rowFound rows′ words′ link ≡ At i) (skew : skewIn rows j ≡ skewIn rows′ i) where
   abbrev Same : List ℕ → List ℕ → Type 0
@@ -76,7 +76,7 @@ unknown link rows words e h o =
       others = λ f m off _ r n. length-call rows r f (o f m) ∙ n;
     }
 
--- ---- records as lists of words
+-- ---- memories as lists of words
 same-words : (r s : List ℕ) (j i : ℕ) → memoryWords * j + memoryWords ≤ length r → memoryWords * i + memoryWords ≤ length s → SameMemory r j s i
     → take memoryWords (drop (memoryWords * j) r) ≡ take memoryWords (drop (memoryWords * i) s)
 unfolding word

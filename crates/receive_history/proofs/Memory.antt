@@ -1,4 +1,4 @@
--- What a record holds: at every point of a history it says what the frames that its link received say. Assumes nothing.
+-- What a memory holds: at every point of a history it says what the frames that its link received say. Assumes nothing.
 use Prim.Native.Nat.{ℕ, _+_, _*_, _≤_, _<_}
 use mathlib.Core.Bool.{Bool, true, false, _&&_, false≢true}
 use mathlib.Core.List.{List, [], _∷_}
@@ -118,13 +118,13 @@ pub unmet-none : (x : Network) (n : ℕ) → unmet x n [] ≡ none
 unfolding unmet
 unmet-none x n = refl
 
--- ---- record j says what the frames p do
+-- ---- memory j says what the frames p do
 pub record Represents (r : List ℕ) (j : ℕ) (p : List Answered) : Type 0 where
   pub time : latestTime r j ≡ newestTime p
   pub number : (x : Network) → lastNumber r j x ≡ newestNumber x p
   pub delivery : (x : Network) (n : ℕ) → n < numberCount → awaiting r j x n ≡ unmet x n p
 
--- an empty record of no frames
+-- an empty memory of no frames
 pub empty-says : (r : List ℕ) (j : ℕ) → ((k : ℕ) → k < memoryWords → word r j k ≡ 0) → Represents r j []
 unfolding newestTime newestNumber unmet
 empty-says r j z =
@@ -145,7 +145,7 @@ same-says r s j p e q =
           ap₂ deliveryOf (e (awaitingWord x n) (awaiting-inside x n _ refl h)) (e (deliveredWord x n) (omega arith)) ∙ q .delivery x n h;
     }
 
--- the answer by the record is the rule's
+-- the answer by the memory is the rule's
 pub answer-says : (skew : ℕ) (r : List ℕ) (j : ℕ) (p : List Answered) (f : Arrival) → f .number < numberCount → Represents r j p
     → answerBy skew r j f ≡ ruleOn skew p f
 unfolding answerBy ruleOn

@@ -50,12 +50,12 @@ module _ (l : ℕ) (f : Arrival) (p : List Answered) where
   pub other-stays : (a : Reception) → onLink l f ≡ false → ofLink l (answeredOf f a ∷ p) ≡ ofLink l p
   other-stays a e = only-drop (receivedOn l) (answeredOf f a) p (ap (λ (b : Bool). b && taken a) e)
 
--- ---- so many words, and every record says what the frames that its link received before say
+-- ---- so many words, and every memory says what the frames that its link received before say
 pub record Stands (rows : List ℕ) (words : ℕ) (p : List Answered) (r : List ℕ) : Type 0 where
   pub long : length r ≡ words
   pub each : (l j : ℕ) → rowFound rows words l ≡ At j → Represents r j (ofLink l p)
 
--- what one call answers by the rule, and that the records stand after it
+-- what one call answers by the rule, and that the memories stand after it
 pub record Step (rows : List ℕ) (words : ℕ) (p : List Answered) (f : Arrival) (z : Received) : Type 0 where
   pub says : z .says ≡ ruleAnswer rows words p f
   pub stands : Stands rows words (answeredOf f (z .says) ∷ p) (z .memory)
@@ -81,7 +81,7 @@ module _ (rows : List ℕ) (words : ℕ) (p : List Answered) (r : List ℕ) (st 
     whole : memoryWords * j + memoryWords ≤ length r
     whole = let w = memory-whole rows words (f .link) j e in let q = st .long in omega arith
 
-    -- the record of the frame's own link
+    -- the memory of the frame's own link
     own : (a : Reception) (l i : ℕ) → rowFound rows words l ≡ At i → onLink l f ≡ true → Represents (memoryAfter r j f a) i (ofLink l (answeredOf f a ∷ p))
     own a l i q on =
         let m : f .link ≡ l = eqb-true _ _ on in
@@ -136,7 +136,7 @@ each-frame rows words h o =
           (a, subst (λ (b : Answered). Stands rows words (b ∷ p) (received rows r f .memory)) a (s .stands));
     }
 
--- ---- from empty records
+-- ---- from empty memories
 pub starts : (rows r : List ℕ) → Empty rows r → Stands rows (length r) [] r
 starts rows r z =
     record {

@@ -13,7 +13,7 @@ use Rattle.receive_history.specs.Rule.{ruleAnswers}
 use Rattle.receive_history.specs.Isolation.{ReceptionsApart}
 use Rattle.receive_history.specs.Words.{RuleOfNext, OtherReceptionsInWords, CopiesInWords, CopyMeetsDelivery, MetOnce, OneCopyEach, AloneDelivered}
 
--- ---- the rule: for any rows, any empty records and any list of frames, the answers of the whole list are the rule's
+-- ---- the rule: for any rows, any empty memories and any list of frames, the answers of the whole list are the rule's
 abbrev pub RuleOfReceptions : Type 0
 RuleOfReceptions = (rows r : List ℕ) → Empty rows r → (h : List Arrival) → Octets h → frameAnswers rows r h ≡ ruleAnswers rows (length r) h
 

@@ -1,4 +1,4 @@
--- Histories of the receiving end (document 02, Q-1): lists of frames from empty records, each on the records that the one before left.
+-- Histories of the receiving end (document 02, Q-1): lists of frames from empty memories, each on the memories that the one before left.
 use Prim.Native.Nat.{ℕ, _*_, _<_}
 use mathlib.Core.Bool.{Bool}
 use mathlib.Core.List.{List, [], List·Memᴰ}
@@ -24,18 +24,18 @@ pub record Answered : Type 0 where
 abbrev pub answeredOf : Arrival → Reception → Answered
 answeredOf f a = record { frame = f; says = a }
 
--- frames received by these rows: what a frame is answered, and the records that it leaves
+-- frames received by these rows: what a frame is answered, and the memories that it leaves
 abbrev pub receiving : List ℕ → Machine (List ℕ) Arrival Answered
 receiving rows = record { says = λ r f. answeredOf f (received rows r f .says); leaves = λ r f. received rows r f .memory }
 
--- what the frames of a list are answered, and the records that the last one leaves
+-- what the frames of a list are answered, and the memories that the last one leaves
 abbrev pub frameAnswers : List ℕ → List ℕ → List Arrival → List Answered
 frameAnswers rows r h = History.answers (receiving rows) r h
 
 abbrev pub finalMemory : List ℕ → List ℕ → List Arrival → List ℕ
 finalMemory rows r h = History.final (receiving rows) r h
 
--- the records of the rows in use are empty
+-- the memories of the rows in use are empty
 abbrev pub Empty : List ℕ → List ℕ → Type 0
 Empty rows r = (j : ℕ) → j < rowsInUse (length rows) (length r) → (k : ℕ) → k < memoryWords → word r j k ≡ 0
 
@@ -43,7 +43,7 @@ Empty rows r = (j : ℕ) → j < rowsInUse (length rows) (length r) → (k : ℕ
 abbrev pub Octets : List Arrival → Type 0
 Octets h = (f : Arrival) → List·Memᴰ f h → f .number < numberCount
 
--- ---- a link's own part: its frames, its SkewMax if it has a row, its record
+-- ---- a link's own part: its frames, its SkewMax if it has a row, its memory
 abbrev pub onLink : ℕ → Arrival → Bool
 onLink link f = eqb (f .link) link
 

@@ -1,5 +1,5 @@
 -- The rule of the receiving end over a history (document 02, Q-1): each frame's answer from the rows and from the frames before it with
--- the answers that they got. It reads no record.
+-- the answers that they got. It reads no memory.
 use Prim.Native.Nat.{ℕ}
 use mathlib.Core.Bool.{Bool, true, false, _&&_}
 use mathlib.Core.List.{List, [], _∷_}
@@ -67,7 +67,7 @@ abbrev pub ruleBy : List ℕ → List Answered → Arrival → Found → Recepti
 ruleBy rows past f Nowhere = UnknownLink
 ruleBy rows past f (At j) = ruleOn (skewIn rows j) (ofLink (f .link) past) f
 
--- by the row of its link; so many words of records are lent
+-- by the row of its link; so many words of memories are lent
 unfoldable pub ruleAnswer : List ℕ → ℕ → List Answered → Arrival → Reception
 ruleAnswer rows words past f = ruleBy rows past f (rowFound rows words (f .link))
 

@@ -39,7 +39,7 @@ fn main() {
     let mut lasts = [0u64; ACCOUNTS];
     let mut links = [0u8; LINK_ROWS];
     let loaded = load(&mut accounts, &mut credits, &mut lasts, &mut links);
-    if loaded.code != 0 {
+    if loaded.code != codes::SUCCESS {
         say_refused(loaded.code, loaded.offset);
         return;
     }

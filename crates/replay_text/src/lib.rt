@@ -14,13 +14,6 @@ const SPACE: u8 = 32;
 
 const LINE_END: u8 = 10;
 
-// The codes of answers that carry a credit.
-const FORWARDED: u8 = 0;
-
-const LATE: u8 = 8;
-
-const SHORT: u8 = 9;
-
 // The longest line as a value: it is the figure that the definitions give.
 pub fn longest_line() -> usize
     ensures { λ r. ⌜ r ≡ longestLine ⌝ }
@@ -59,11 +52,11 @@ pub fn put_line(out: &mut [u8], at: usize, number: u64, verdict: Verdict) -> usi
             out,
             at,
             number,
-            FORWARDED,
+            codes::SUCCESS,
             credit,
         ),
-        Verdict::Short(credit) => put_credit_line(out, at, number, SHORT, credit),
-        Verdict::Late(credit) => put_credit_line(out, at, number, LATE, credit),
+        Verdict::Short(credit) => put_credit_line(out, at, number, codes::SHORT, credit),
+        Verdict::Late(credit) => put_credit_line(out, at, number, codes::LATE, credit),
         Verdict::Refused(code) => put_code_line(out, at, number, code),
     }
 }

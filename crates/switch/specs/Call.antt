@@ -5,6 +5,7 @@ use mathlib.Core.Bool.{not, _&&_}
 use mathlib.Core.List.{List}
 use lib.ListN.{length, getD, set}
 use lib.Dec.{eqb}
+use Rattle.codes.specs.Codes
 use Rattle.lists.specs.Choice.{if_then_else_}
 use Rattle.account.specs.Account.{accountOf, accountSound}
 use Rattle.account.specs.Step.{Stepped, policed}
@@ -74,8 +75,8 @@ stepOn l q = record { says = withMask (l .mask) (q .says); credit = q .account .
 -- 10 where the link's row or the account breaks a rule or the credit is above the capacity; then 5, 6 and 7; then the step
 unfoldable pub decided : Link → ℕ → Account → ℕ → ℕ → ℕ → Decided
 decided l used a n port t =
-    if not (linkSound l used (a .terms .smax) && accountSound a) then kept 10 a
-    else if not (eqb (portCode l n port) 0) then kept (portCode l n port) a
+    if not (linkSound l used (a .terms .smax) && accountSound a) then kept Codes.unsound a
+    else if not (eqb (portCode l n port) Codes.success) then kept (portCode l n port) a
     else stepOn l (policed a n t)
 
 -- what is decided for account a, stored

@@ -7,7 +7,6 @@ ghost use Rattle.tables.specs.Rows.{accountOctets, configFor};
 ghost use Rattle.switch_verdict.specs.Verdict.{reported};
 ghost use Rattle.switch.specs.Call.{inUseBy, accountHeld, decisionOf, kept, decided, stateOf, callOf, afterOf, called};
 use account::Account;
-use account::UNSOUND;
 use filter::Route;
 use switch_verdict::Verdict;
 use tables::Link;
@@ -44,14 +43,14 @@ fn decide(link: Link, used: usize, account: Account, octets: usize, ingress: Ing
     ensures { λ r. ⌜ decisionOf r ≡ decided link used account octets (ingress .port) (ingress .time) ⌝ }
 {
     if !tables_rules::link_sound(link, used, account.terms.smax) {
-        return kept(UNSOUND, account);
+        return kept(codes::UNSOUND, account);
     }
     let capacity = account.capacity();
     if capacity == 0 {
-        return kept(UNSOUND, account);
+        return kept(codes::UNSOUND, account);
     }
     let code = filter::port_code(link, octets, ingress.port);
-    if code != 0 {
+    if code != codes::SUCCESS {
         return kept(code, account);
     }
     let step = account.judge(capacity, account.terms.cost(octets), ingress.time);
@@ -129,7 +128,7 @@ pub fn frame_call(
         Route::OnLink(link) => {
             let a = link.account as usize;
             if used <= a {
-                return Verdict::Refused(UNSOUND);
+                return Verdict::Refused(codes::UNSOUND);
             }
             let account = account_held(accounts, credits, lasts, link.account);
             let out = decide(link, used, account, frame.len(), ingress);

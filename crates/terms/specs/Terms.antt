@@ -3,6 +3,7 @@
 use Prim.Native.Nat.{ℕ, _+_, _*_, _^_}
 use mathlib.Core.Bool.{Bool, _&&_, _||_}
 use lib.Dec.{leb, eqb}
+use Rattle.codes.specs.Codes
 use Rattle.lists.specs.Choice.{if_then_else_}
 use Rattle.frame.specs.Limits.{smallestFrame, largestFrame}
 use Rattle.frame.specs.Frame.{lengthCode}
@@ -87,4 +88,4 @@ checkedCapacity p = if termsGood p then capacity p else 0
 
 -- the cost as the method gives it: 0 where the values break a limit or no frame has n octets
 unfoldable pub checkedCost : Terms → ℕ → ℕ
-checkedCost p n = if termsGood p && eqb (lengthCode n) 0 then cost p n else 0
+checkedCost p n = if termsGood p && eqb (lengthCode n) Codes.success then cost p n else 0
