@@ -9,7 +9,7 @@ use lib.ListN.{length, length-append}
 use borrow.Author.Tests.{le-leb}
 use Rattle.octets.specs.Numbers.{numberAt}
 use Rattle.octets.specs.Runs.{octetsAt}
-use Rattle.octets.proofs.Parts.{part-front, part-behind, part-whole}
+use Rattle.octets.proofs.Parts.{part-front, part-after, part-whole}
 use Rattle.fields.specs.Fields.{fieldOf, tagAndLength, lengthAt, standsAt}
 use Rattle.fields.specs.Claims.{FieldReadsBack, FieldSpelled, FieldFigures}
 use Rattle.fields.proofs.Fields.{length-field, field-is, tag-read, length-read, data-read, field-spelled, stands-tag, stands-length}
@@ -26,7 +26,7 @@ module _ (before after bytes : List ℕ) (tag : ℕ) where
       ap (λ (w : ℕ). octetsAt w run (length before)) (sym n)
       ∙ part-front (length (fieldOf tag bytes)) (before ++ fieldOf tag bytes) after (length before) (omega arith)
       ∙ ap (octetsAt (length (fieldOf tag bytes)) (before ++ fieldOf tag bytes)) (sym (add-zero (length before)))
-      ∙ part-behind (length (fieldOf tag bytes)) before (fieldOf tag bytes) (length before) 0 refl
+      ∙ part-after (length (fieldOf tag bytes)) before (fieldOf tag bytes) (length before) 0 refl
       ∙ part-whole (fieldOf tag bytes)
 
   long : length before + (tagAndLength + length bytes) ≤ length run

@@ -28,7 +28,7 @@ runsHold n m accounts credits lasts links =
 abbrev pub longEnough : ℕ → ℕ → Runs → Bool
 longEnough n m r = runsHold n m (length (r .accounts)) (length (r .credits)) (length (r .lasts)) (length (r .links))
 
--- the answer, by the lengths of the runs: 26 only when all is well
+-- the answer, by the lengths of the runs: 26 only when nothing else is refused
 unfoldable pub loadAnswer : List ℕ → ℕ → ℕ → ℕ → ℕ → ImageAnswer
 loadAnswer s accounts credits lasts links =
     if not (eqb (readImage s .code) Codes.success) then readImage s

@@ -97,7 +97,7 @@ unfolding nextCode
 next-passes s n m z =
     passed s (fieldOffset n m) (inOrder (tagAt s n m) n m) (dataOctets (tagAt s n m)) (isFull (tagAt s n m) n m) (valuesGood s (tagAt s n m) n m) z
 
--- ---- a field that has the tag and is well
+-- ---- a field that has the tag and is good
 module _ (s : List ℕ) (tag n m : ℕ) (e : goodField s tag n m ≡ true) where
   pub good-tag : tagAt s n m ≡ tag
   unfolding goodField

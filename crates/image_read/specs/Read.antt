@@ -12,7 +12,7 @@ use Rattle.image_layout.specs.Layout.{accountTag, linkTag, fieldOffset, imageLe
 use Rattle.image_read.specs.declared.ImageAnswer.{ImageAnswer}
 use Rattle.image_field.specs.Checks.{headCode, nextCode, tagAt}
 
--- ---- how many accounts stand after the head, and how many links after them, each of the tag and well
+-- ---- how many accounts stand after the head, and how many links after them, each of the tag and good
 unfoldable pub goodField : List ℕ → ℕ → ℕ → ℕ → Bool
 goodField s tag n m = eqb (tagAt s n m) tag && eqb (nextCode s n m) Codes.success
 

@@ -7,7 +7,7 @@ use native.Mathlib.Omega.{arith}
 use lib.ListN.{length, getD, length-append}
 use Rattle.octets.specs.Numbers.{octetsOf}
 use Rattle.octets.specs.Runs.{octetsAt, joined}
-use Rattle.octets.proofs.Parts.{part-is, part-front, part-behind, part-join, part-whole, part-joined, joined-at, joined-same}
+use Rattle.octets.proofs.Parts.{part-is, part-front, part-after, part-join, part-whole, part-joined, joined-at, joined-same}
 use Rattle.tables.specs.Rows.{Config, accountOctets, linkOctets}
 use Rattle.fields.specs.Fields.{fieldOf, tagAndLength}
 use Rattle.image_layout.specs.Layout.{headTag, accountTag, linkTag, endTag, edition, imageOf, headSize, accountSize, linkSize, fieldOffset, imageLength}
@@ -68,7 +68,7 @@ module _ (g : Config) where
       ap (octetsAt accountSize (head ++ accounts ++ links ++ fieldOf endTag [])) p
       ∙ part-front accountSize (head ++ accounts ++ links) (fieldOf endTag []) (headSize + accountSize * i) (omega arith)
       ∙ part-front accountSize (head ++ accounts) links (headSize + accountSize * i) (omega arith)
-      ∙ part-behind accountSize head accounts headSize (accountSize * i) a
+      ∙ part-after accountSize head accounts headSize (accountSize * i) a
       ∙ joined-at (rowField accountTag accountOctets (g .accounts)) accountSize (length-row-field accountTag accountOctets (g .accounts)) (g .accountCount) i h
 
   pub image-link : (j : ℕ) → j < g .linkCount → octetsAt linkSize (imageOf g) (fieldOffset (g .accountCount) j) ≡ rowField linkTag linkOctets (g .links) j
@@ -81,14 +81,14 @@ module _ (g : Config) where
       let q : fieldOffset (g .accountCount) 0 + linkSize * j + linkSize ≤ length (head ++ accounts ++ links) = omega arith in
       ap (octetsAt linkSize (head ++ accounts ++ links ++ fieldOf endTag [])) p
       ∙ part-front linkSize (head ++ accounts ++ links) (fieldOf endTag []) (fieldOffset (g .accountCount) 0 + linkSize * j) q
-      ∙ part-behind linkSize (head ++ accounts) links (fieldOffset (g .accountCount) 0) (linkSize * j) a
+      ∙ part-after linkSize (head ++ accounts) links (fieldOffset (g .accountCount) 0) (linkSize * j) a
       ∙ joined-at (rowField linkTag linkOctets (g .links)) linkSize (length-row-field linkTag linkOctets (g .links)) (g .linkCount) j h
 
   pub image-end : octetsAt (tagAndLength + 0) (imageOf g) (fieldOffset (g .accountCount) (g .linkCount)) ≡ fieldOf endTag []
   unfolding imageOf
   image-end =
       ap (octetsAt (tagAndLength + 0) (head ++ accounts ++ links ++ fieldOf endTag [])) (sym (add-zero (fieldOffset (g .accountCount) (g .linkCount))))
-      ∙ part-behind (tagAndLength + 0) (head ++ accounts ++ links) (fieldOf endTag []) (fieldOffset (g .accountCount) (g .linkCount)) 0 length-before-end
+      ∙ part-after (tagAndLength + 0) (head ++ accounts ++ links) (fieldOf endTag []) (fieldOffset (g .accountCount) (g .linkCount)) 0 length-before-end
       ∙ part-is (tagAndLength + 0) (fieldOf endTag []) 0 (fieldOf endTag []) (length-field endTag []) (λ k l. ap (λ (i : ℕ). getD (fieldOf endTag []) i 0) (zero-add k))
 
 -- ---- octets in which every field is spelled are the image

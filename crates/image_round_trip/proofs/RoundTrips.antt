@@ -311,11 +311,11 @@ module _ (s : List ℕ) (o : (i : ℕ) → getD s i 0 < 256) (z : readImage s .c
   rows : HoldsImage s r (q .settings .accounts) (q .settings .links)
   rows = fresh-holds s r f
 
-  account-well : (i : ℕ) → i < q .settings .accounts → goodField s accountTag i 0 ≡ true
-  account-well i l = let e = ok .accounts-are in counted-account s i (omega arith)
+  account-field-good : (i : ℕ) → i < q .settings .accounts → goodField s accountTag i 0 ≡ true
+  account-field-good i l = let e = ok .accounts-are in counted-account s i (omega arith)
 
-  link-well : (j : ℕ) → j < q .settings .links → goodField s linkTag (q .settings .accounts) j ≡ true
-  link-well j l = let e = ok .links-are in counted-link s (q .settings .accounts) j (omega arith)
+  link-field-good : (j : ℕ) → j < q .settings .links → goodField s linkTag (q .settings .accounts) j ≡ true
+  link-field-good j l = let e = ok .links-are in counted-link s (q .settings .accounts) j (omega arith)
 
   -- the writer accepts them
   pub read-accepts : (room : ℕ) → length s ≤ room → Accepts g room
@@ -328,10 +328,10 @@ module _ (s : List ℕ) (o : (i : ℕ) → getD s i 0 < 256) (z : readImage s .c
             (some-accounts s (q .settings .accounts) (q .settings .links) (ok .accounts-are) (ok .links-are) (ok .end-code)) (few .0) (b .accounts-long)
             (some-links s (q .settings .accounts) (q .settings .links) (ok .accounts-are) (ok .links-are) (ok .end-code)) (few .1) (b .links-long);
         constant = ap constantGood (ok .constant-is) ∙ head-good-constant s (head-passes s (ok .head-code) .sound);
-        accounts = λ i k. account-good-same (accountTable (r .accounts)) (accountFields s) i i (rows .accounts i k) ∙ good-account s i (account-well i k);
+        accounts = λ i k. account-good-same (accountTable (r .accounts)) (accountFields s) i i (rows .accounts i k) ∙ good-account s i (account-field-good i k);
         links = λ j k.
             link-good-same (accountTable (r .accounts)) (accountFields s) (linkTable (r .links)) (linkFields s (q .settings .accounts)) (q .settings .accounts) j (rows .accounts) (rows .links j k) (rows .links (j - 1) (omega arith))
-            ∙ good-link s (q .settings .accounts) j (link-well j k);
+            ∙ good-link s (q .settings .accounts) j (link-field-good j k);
         fits = omega arith;
       }
 
@@ -348,14 +348,14 @@ module _ (s : List ℕ) (o : (i : ℕ) → getD s i 0 < 256) (z : readImage s .c
   spelled-account : (i : ℕ) → i < q .settings .accounts → octetsAt accountSize s (fieldOffset i 0) ≡ rowField accountTag accountOctets (r .accounts) i
   unfolding dataOctets
   spelled-account i l =
-      let w = account-well i l in
+      let w = account-field-good i l in
       field-spelled s (fieldOffset i 0) accountOctets accountTag o (good-tag s accountTag i 0 w) (good-passes s accountTag i 0 w .sized)
       ∙ ap (fieldOf accountTag) (ap (octetsAt accountOctets s) (account-offset i) ∙ sym (account-octets s r f i l))
 
   spelled-link : (j : ℕ) → j < q .settings .links → octetsAt linkSize s (fieldOffset (q .settings .accounts) j) ≡ rowField linkTag linkOctets (r .links) j
   unfolding dataOctets
   spelled-link j l =
-      let w = link-well j l in
+      let w = link-field-good j l in
       let n = q .settings .accounts in
       field-spelled s (fieldOffset n j) linkOctets linkTag o (good-tag s linkTag n j w) (good-passes s linkTag n j w .sized)
       ∙ ap (fieldOf linkTag) (ap (octetsAt linkOctets s) (link-offset (q .settings .accounts) j) ∙ sym (link-octets s r f j l))

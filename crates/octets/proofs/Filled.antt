@@ -10,7 +10,7 @@ use lib.Dec.{leb}
 use lib.ListN.{length, getD, set, replicate, replicate-append-replicate}
 use Rattle.octets.specs.Runs.{octetsAt, joined, put}
 use Rattle.octets.proofs.Parts.{length-joined, row-below}
-use Rattle.octets.proofs.Runs.{put-none, put-one, put-after, put-refused, getD-put-behind, length-written}
+use Rattle.octets.proofs.Runs.{put-none, put-one, put-after, put-refused, getD-put-after, length-written}
 
 -- e is d with the first i of the n pieces f 0, f 1, .. written from `at` on; each piece has w elements and d has room for all
 pub record Filled (d : List ℕ) (at w : ℕ) (f : ℕ → List ℕ) (n i : ℕ) (e : List ℕ) : Type 0 where
@@ -35,7 +35,7 @@ module _ {d : List ℕ} {at w : ℕ} {f : ℕ → List ℕ} {n : ℕ} where
     pub fill-beyond : (k : ℕ) → at + w * i ≤ k → getD e k 0 ≡ getD d k 0
     fill-beyond k l =
         let j = length-joined f w (b .each) i in
-        ap (λ (r : List ℕ). getD r k 0) (b .is) ∙ getD-put-behind d at (joined f i) k (omega arith)
+        ap (λ (r : List ℕ). getD r k 0) (b .is) ∙ getD-put-after d at (joined f i) k (omega arith)
 
     module _ (l : i < n) where
       -- the next piece has room

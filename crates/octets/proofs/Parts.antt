@@ -102,8 +102,8 @@ part-join v (suc w) s at =
 pub part-front : (w : ℕ) (xs ys : List ℕ) (at : ℕ) → at + w ≤ length xs → octetsAt w (xs ++ ys) at ≡ octetsAt w xs at
 part-front w xs ys at h = part-same w (xs ++ ys) xs at at (λ k l. List·getD-append xs ys 0 (at + k) (omega arith))
 
-pub part-behind : (w : ℕ) (xs ys : List ℕ) (at k : ℕ) → length xs ≡ at → octetsAt w (xs ++ ys) (at + k) ≡ octetsAt w ys k
-part-behind w xs ys at k e =
+pub part-after : (w : ℕ) (xs ys : List ℕ) (at k : ℕ) → length xs ≡ at → octetsAt w (xs ++ ys) (at + k) ≡ octetsAt w ys k
+part-after w xs ys at k e =
     part-same w (xs ++ ys) ys (at + k) k
     (λ j l. ap (λ (i : ℕ). getD (xs ++ ys) i 0) (add-assoc at k j ∙ ap (λ (i : ℕ). i + (k + j)) (sym e)) ∙ getD-append-add xs ys (k + j) 0)
 
@@ -140,7 +140,7 @@ module _ (f : ℕ → List ℕ) (w : ℕ) (each : (i : ℕ) → length (f i) ≡
       let m : n ≡ i = omega arith in
       ap (λ (j : ℕ). octetsAt w (joined f n ++ f n) (w * j)) (sym m)
       ∙ ap (octetsAt w (joined f n ++ f n)) (sym (add-zero (w * n)))
-      ∙ part-behind w (joined f n) (f n) (w * n) 0 (length-joined n)
+      ∙ part-after w (joined f n) (f n) (w * n) 0 (length-joined n)
       ∙ part-is w (f n) 0 (f n) (each n) (λ k l. ap (λ (j : ℕ). getD (f n) j 0) (zero-add k))
       ∙ ap f m)
       (λ e.

@@ -60,8 +60,8 @@ module _ (d : List ℕ) (at : ℕ) (xs : List ℕ) where
       ∙ getD-take at d k 0 l)
       (λ e. ap (λ (r : List ℕ). getD r k 0) (put-no-room (leb-false _ _ e)))
 
-  pub getD-put-behind : (k : ℕ) → at + length xs ≤ k → getD (put d at xs) k 0 ≡ getD d k 0
-  getD-put-behind k l =
+  pub getD-put-after : (k : ℕ) → at + length xs ≤ k → getD (put d at xs) k 0 ≡ getD d k 0
+  getD-put-after k l =
       split (leb (at + length xs) (length d))
       (λ e.
       let h = leb-true _ _ e in

@@ -24,9 +24,9 @@ pub number-some : (w : ℕ) → (w ≡ 0 → ⊥) → numberOf w ≡ some (w - 1
 unfolding numberOf
 number-some w d = simp (ne-eqb _ _ d)
 
-behind : (p n : ℕ) → passes (some p) n ≡ (eqb n 0 || eqb n (next p) || eqb n (next (next p)))
+some-before : (p n : ℕ) → passes (some p) n ≡ (eqb n 0 || eqb n (next p) || eqb n (next (next p)))
 unfolding passes
-behind p n = refl
+some-before p n = refl
 
 first : (n : ℕ) → passes none n ≡ true
 unfolding passes
@@ -38,7 +38,7 @@ module _ (w n : ℕ) where
 
   module _ (d : w ≡ 0 → ⊥) where
     held : passes (numberOf w) n ≡ (eqb n 0 || eqb n (next (w - 1)) || eqb n (next (next (w - 1))))
-    held = ap (λ (o : Option ℕ). passes o n) (number-some w d) ∙ behind (w - 1) n
+    held = ap (λ (o : Option ℕ). passes o n) (number-some w d) ∙ some-before (w - 1) n
 
     pub passes-zero : n ≡ 0 → true ≡ passes (numberOf w) n
     passes-zero e = sym (held ∙ simp (eq-eqb n 0 e))

@@ -1,4 +1,4 @@
--- `count_accounts`: field by field. The loop's invariant: all fields before this one are well. Assumes nothing.
+-- `count_accounts`: field by field. The loop's invariant: all fields before this one are good. Assumes nothing.
 use Prim.Native.Nat.{_-_, _≤_}
 use mathlib.Core.Path.{_≡_}
 use native.Mathlib.Numerals.{add-one}

@@ -1,4 +1,4 @@
--- `bad_account`: row by row. The loop's invariant: all rows before this one are well. Assumes nothing.
+-- `bad_account`: row by row. The loop's invariant: all rows before this one are good. Assumes nothing.
 use Prim.Native.Nat.{_-_, _≤_}
 use mathlib.Core.Path.{_≡_, ap, _∙_}
 use native.Mathlib.Numerals.{add-one}

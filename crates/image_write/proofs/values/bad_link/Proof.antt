@@ -1,4 +1,4 @@
--- `bad_link`: row by row. The loop's invariant: all rows before this one are well. Assumes nothing.
+-- `bad_link`: row by row. The loop's invariant: all rows before this one are good. Assumes nothing.
 use Prim.Native.Nat.{_-_, _≤_}
 use mathlib.Core.Path.{_≡_, ap₂, _∙_}
 use native.Mathlib.Numerals.{add-one}
