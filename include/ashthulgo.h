@@ -53,7 +53,7 @@ enum {
     ASHTHULGO_IMAGE_LENGTH = 22, /* length not the tag's */
     ASHTHULGO_IMAGE_VALUE = 23,  /* a value breaks a rule */
     ASHTHULGO_IMAGE_COUNT = 24,  /* an account or a link too many; for the writer also a count of 0 or over the rows lent */
-    ASHTHULGO_IMAGE_MORE = 25,   /* octets behind the end */
+    ASHTHULGO_IMAGE_MORE = 25,   /* octets after the end */
     ASHTHULGO_IMAGE_ROOM = 26    /* a lent run or room too short */
 };
 
