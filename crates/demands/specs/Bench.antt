@@ -1,5 +1,5 @@
 -- The starred cases of the bench sheet (document 01, "Bench sheet") as one statement, from the octets of image P through loading and
--- the frame call. The cases, with octets, time, code and credit, are those of rule's table, where the figures beside them stand too: the
+-- the frame call. The cases, with octets, time, code and credit, are those of account_rule's table, where the figures beside them stand too: the
 -- cost of case 3, the sums of case 4 and the top-up of case 10, of the account values that image P is here said to have.
 use Prim.Native.Nat.{ℕ, _-_, _^_}
 use mathlib.Core.Bool.{true}

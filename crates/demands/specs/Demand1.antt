@@ -1,6 +1,6 @@
 -- Demand 1, of document 01's calls: every call answers, and a refusal changes nothing. The statements stand with the calls that they
 -- are about; here they are gathered. All are for any input whatsoever. Proved in proofs/Demands.antt. The receiving end's are gathered
--- in receptions.
+-- in receive_history.
 use Rattle.frame.specs.Claims.{ReadingAnswers, ReadingRefused}
 use Rattle.account.specs.Claims.{StepAnswers, RefusedStepKeeps, RefusedStepReports, StepsApart, ShortStepTopsUp}
 use Rattle.image_read.specs.Claims.{ReadCodes}
@@ -19,7 +19,7 @@ pub record Answers : Type 0 where
   pub image-writing : WriteCodes
 
 -- what a refusal leaves: everything, but that 9 brings its account to the frame's time ("Codes, in order of checking", after it). The
--- other exception, a reader's place, is the second promise of loader's `reader::load`: it is then the offset answered
+-- other exception, a reader's place, is the second promise of image_reader's `load`: it is then the offset answered
 pub record RefusalsKeep : Type 0 where
   pub frame-call : RefusedCallKeeps
   pub frame-call-effects : CallEffects
@@ -32,7 +32,7 @@ pub record RefusalsKeep : Type 0 where
 pub record Demand1 : Type 0 where
   pub answers : Answers
   pub refusals-keep : RefusalsKeep
-  -- no two answers report the same; what a refused step reports; where the offset of an image's answer lies
+  -- different answers report different values; what a refused step reports; offsets of an image's answer lie inside it
   pub verdicts-apart : VerdictsApart
   pub steps-apart : StepsApart
   pub step-reports : RefusedStepReports

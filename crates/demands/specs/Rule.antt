@@ -66,7 +66,7 @@ passing s a f = meant s a f && eqb (filterCode s f) Codes.success
 abbrev pub stepCallOf : Call → StepCall
 stepCallOf f = record { octets = length (f .octets); time = f .time }
 
--- of the frames that pass to it in a past, the rule for one account leaves out the late ones, and reports which of the others were
+-- of the frames that pass to it in a past, the rule for one account leaves out the late ones, and says which of the others were
 -- forwarded. Both lists have the newest first
 unfoldable pub reachedIn : List ℕ → List Call → ℕ → List Reached
 reachedIn s past a = leftBy (ruleOfAccount (imageTerms s a)) [] (map stepCallOf (only (passing s a) past))

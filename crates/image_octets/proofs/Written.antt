@@ -1,4 +1,4 @@
--- Laws of laying an image's octets: a field, fields one after the other, the whole image. Assumes nothing.
+-- Laws of writing an image's octets: a field, fields one after the other, the whole image. Assumes nothing.
 use Prim.Native.Nat.{ℕ, _+_, _*_, _≤_, _<_}
 use mathlib.Core.List.{List, [], _∷_, _++_}
 use mathlib.Core.Path.{_≡_, refl, sym, ap, _∙_}

@@ -41,7 +41,7 @@ use Rattle.fields.proofs.Fields.{stands-by, tag-read, length-read, data-read, f
 use Rattle.image_round_trip.proofs.Imaged.{image-head, image-account, image-link, image-end, image-spelled}
 use Rattle.image_octets.proofs.Written.{rowField, length-head, length-image}
 
--- ---- small things that both trips use
+-- ---- small things that both round trips use
 abbrev accepting : ℕ → ℕ → ℕ → ℕ → ImageAnswer
 accepting l c n m = record { code = 0; offset = l; settings = settingsOf c n m }
 

@@ -1,1 +1,1 @@
-// No code: the round trips of an image, over what loading and writing promise. See specs/Trips.antt.
+// No code: the round trips of an image, over what loading and writing promise. See specs/RoundTrips.antt.

@@ -26,7 +26,7 @@ use Rattle.receive.specs.Claims.{PossibleAnswers, RefusedKeeps, UnknownE
 use Rattle.receive.proofs.Answering.{refused-leaves, call-at, call-nowhere, by-row}
 use Rattle.receive_answer.proofs.Answer.{by-reception}
 use Rattle.receive_answer.proofs.Claims.{possible}
-use Rattle.receive.proofs.Kept.{kept-left, noted-time, noted-number, met-time, met-number, delivered-time, delivered-number}
+use Rattle.receive.proofs.Stored.{stored-left, noted-time, noted-number, met-time, met-number, delivered-time, delivered-number}
 use Rattle.receive.proofs.Words.{number-inside, awaiting-inside, delivered-inside, memory-in-run, length-store, word-same, word-other, outside-before, outside-after}
 
 pub possible-answers : PossibleAnswers
@@ -98,7 +98,7 @@ memory-whole rows words link j e =
 -- ---- the memories left
 pub only-memory : (r : List ℕ) (j : ℕ) (f : Arrival) (a : Reception) → f .number < numberCount → OnlyMemory j r (memoryAfter r j f a)
 only-memory r j f a h =
-    kept-left (λ s t. OnlyMemory j r s) j j
+    stored-left (λ s t. OnlyMemory j r s) j j
     (λ s t k v l p.
     record {
       long = length-store s j k v ∙ p .long;
@@ -148,7 +148,7 @@ module _ (r : List ℕ) (j : ℕ) (s : List ℕ) (i : ℕ) (f : Arrival) (h : f 
   pub same-left : memoryWords * j + memoryWords ≤ length r → memoryWords * i + memoryWords ≤ length s → (a : Reception)
       → SameMemory (memoryAfter r j f a) j (memoryAfter s i f a) i
   same-left p q a =
-      kept-left
+      stored-left
       (λ u v. (memoryWords * j + memoryWords ≤ length u) × (memoryWords * i + memoryWords ≤ length v) × SameMemory u j v i) j i
       (λ u v k x l z.
       let m = length-store u j k x in

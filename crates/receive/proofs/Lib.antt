@@ -1,4 +1,4 @@
 pub mod Claims
 pub mod Answering
-pub mod Kept
+pub mod Stored
 pub mod Words

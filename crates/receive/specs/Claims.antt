@@ -59,7 +59,7 @@ ChangesOwnMemory =
     (rows r : List ℕ) (f : Arrival) → f .number < numberCount → (j : ℕ) → rowFound rows (length r) (f .link) ≡ At j
     → OnlyMemory j r (received rows r f .memory)
 
--- any answer but the refusals, out of sequence too, keeps the time, for both networks, and the number, for its own
+-- any answer but the refusals, out of sequence too, stores the time, for both networks, and the number, for its own
 abbrev pub TimeAndNumberStored : Type 0
 TimeAndNumberStored =
     (rows r : List ℕ) (f : Arrival) (j : ℕ) → rowFound rows (length r) (f .link) ≡ At j → (received rows r f .says ≡ Late → ⊥)

@@ -25,7 +25,7 @@ skewRowOctets = 6
 unfoldable pub skewIn : List ℕ → ℕ → ℕ
 skewIn rows j = numberAt 4 rows (skewRowOctets * j + 2)
 
--- a memory, in words of 64 bits: the link's last time, the last number on each network, and for each network and number two words,
+-- a memory, which is document 02's record, in words of 64 bits: the link's last time, the last number on each network, and for each network and number two words,
 -- for the delivery that may await its copy; 3 + 2 × 256 × 2
 abbrev pub memoryWords : ℕ
 memoryWords = 1027
@@ -69,7 +69,7 @@ lastNumber r j x = numberOf (word r j (numberWord x))
 abbrev pub awaiting : List ℕ → ℕ → Network → ℕ → Option ℕ
 awaiting r j x n = deliveryOf (word r j (awaitingWord x n)) (word r j (deliveredWord x n))
 
--- ---- what is kept in it: time and number of a frame; that a delivery has met its copy; that a frame was delivered
+-- ---- what is stored in it: time and number of a frame; that a delivery has met its copy; that a frame was delivered
 unfoldable pub noted : List ℕ → ℕ → Arrival → List ℕ
 noted r j f = store (store r j timeWord (f .time)) j (numberWord (f .network)) (f .number + 1)
 

@@ -10,7 +10,7 @@ use Rattle.receive_answer.specs.declared.Reception.the-variants.{Delivered, Cop
 use Rattle.receive.specs.Lent.{skewIn, rowFound, latestTime, lastNumber, awaiting, noted, met, delivered}
 use Rattle.receive_answer.specs.Answer.{receptionBy, other}
 
--- ---- what an answer leaves in memory j: the two refusals nothing; any other keeps the number and the time; a copy is then met by the
+-- ---- what an answer leaves in memory j: the two refusals nothing; any other stores the number and the time; a copy is then met by the
 -- delivery that it belongs to, and a delivery awaits its copy
 abbrev pub memoryAfter : List ℕ → ℕ → Arrival → Reception → List ℕ
 memoryAfter r j f UnknownLink = r

@@ -16,7 +16,7 @@ abbrev pub other : Network → Network
 other A = B
 other B = A
 
--- a frame that comes in: its link, its network, its sequence number, its time in us
+-- a frame that comes in: its link, its network, its sequence number, its time in us, which is document 02's stamp
 abbrev pub arrivalOf : ℕ → Network → ℕ → ℕ → Arrival
 arrivalOf link x n t = record { link = link; network = x; number = n; time = t }
 

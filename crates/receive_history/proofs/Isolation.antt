@@ -19,7 +19,7 @@ use Rattle.receive.specs.Lent.{skewIn, memoryWords, rowFound, word}
 use Rattle.receive.specs.Receive.{Received, answerBy, received}
 use Rattle.receive.specs.Claims.{SameMemory}
 use Rattle.receive.proofs.Answering.{call-nowhere, by-row}
-use Rattle.receive.proofs.Kept.{left-beside}
+use Rattle.receive.proofs.Stored.{left-beside}
 use Rattle.receive.proofs.Claims.{row-is-first, memory-whole, changes-own-memory, by-own-memory}
 use Rattle.receive_history.specs.History.{Answered, answeredOf, receiving, finalMemory, Empty, Octets, onLink, skewBy, memoryBy, memoryOf}
 use Rattle.receive_history.specs.Isolation.{SameOnLink, ReceptionsApart}

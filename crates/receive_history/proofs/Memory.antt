@@ -22,7 +22,7 @@ use Rattle.receive_sequence.specs.Sequence.{numberCount, numberOf}
 use Rattle.receive_sequence.proofs.Passing.{number-none}
 use Rattle.receive_answer.proofs.Answer.{delivery-none}
 use Rattle.receive.proofs.Words.{number-inside, awaiting-inside, delivered-inside}
-use Rattle.receive.proofs.Kept.{noted-room, noted-time, noted-number, noted-other, noted-awaiting, met-time, met-number, met-same, met-other, delivered-time, delivered-number, delivered-same, delivered-other}
+use Rattle.receive.proofs.Stored.{noted-room, noted-time, noted-number, noted-other, noted-awaiting, met-time, met-number, met-same, met-other, delivered-time, delivered-number, delivered-same, delivered-other}
 use Rattle.receive_history.specs.History.{Answered, answeredOf}
 use Rattle.receive_history.specs.Rule.{newestTime, sameNetwork, newestNumber, numbered, unmet, ruleOn}
 

@@ -20,7 +20,7 @@ use Rattle.receive.specs.Receive.{Received, receivedOf, memoryAfter, answerBy, 
 use Rattle.receive_answer.specs.Answer.{taken}
 use Rattle.receive_sequence.specs.Sequence.{numberCount}
 use Rattle.receive.proofs.Answering.{refused-leaves, call-at, call-nowhere}
-use Rattle.receive.proofs.Kept.{left-beside}
+use Rattle.receive.proofs.Stored.{left-beside}
 use Rattle.receive.proofs.Claims.{row-is-first, memory-whole, only-memory}
 use Rattle.receive_history.specs.History.{Answered, answeredOf, receiving, finalMemory, Empty, Octets, onLink}
 use Rattle.receive_history.specs.Rule.{receivedOn, ofLink, ruleBy, ruleAnswer, ruleOfFrames}

@@ -9,8 +9,8 @@ use Rattle.replay_log.specs.declared.FrameRecord.{FrameRecord}
 use Rattle.replay_log.specs.declared.Entry.{Entry}
 use Rattle.replay_log.specs.declared.Entry.the-variants.{Frame, More, Cut, End}
 
--- ---- how much of a log is at hand never decides an answer
--- what is reported without more octets is reported with them, whichever they are
+-- ---- answers don't depend on how the log is split into reads
+-- what is answered without more octets is answered with them, whichever they are
 abbrev pub NextSettled : Type 0
 NextSettled = (s t : List ℕ) (at : ℕ) (whole : Bool) → (nextIn s at false ≡ More → ⊥) → nextIn (s ++ t) at whole ≡ nextIn s at false
 
@@ -28,7 +28,7 @@ NextMoved = (t s : List ℕ) (at : ℕ) (whole : Bool) → nextIn (t ++ s) (leng
 abbrev pub NeverMore : Type 0
 NeverMore = (s : List ℕ) (at : ℕ) → ((i : ℕ) → getD s i 0 < 256) → at + longestRecord ≤ length s → nextIn s at false ≡ More → ⊥
 
--- a frame reported lies at hand whole, and the offset after it is right after it
+-- a frame that is found lies at hand whole, and the next offset is right after it
 abbrev pub FrameInside : Type 0
 FrameInside =
     (s : List ℕ) (at : ℕ) (whole : Bool) (r : FrameRecord) → nextIn s at whole ≡ Frame r

@@ -77,9 +77,9 @@ module _ (d : List ℕ) (at : ℕ) (xs : List ℕ) (p : ℕ) (e : List ℕ) (l :
   pub appended-room : e ≡ put d at xs
   appended-room = ap (λ (z : Appended). z .room) l
 
-  pub appended-place : at + length xs ≤ length d → p ≡ at + length xs
+  pub appended-next : at + length xs ≤ length d → p ≡ at + length xs
   unfolding nextOffset
-  appended-place h = ap (λ (z : Appended). z .next) l ∙ simp (le-leb (at + length xs) (length d) h)
+  appended-next h = ap (λ (z : Appended). z .next) l ∙ simp (le-leb (at + length xs) (length d) h)
 
   pub appended-length : length e ≡ length d
   appended-length = ap length appended-room ∙ length-put d at xs
@@ -89,9 +89,9 @@ pub appended-after : (d : List ℕ) (at : ℕ) (xs ys : List ℕ) (a b : ℕ) (e
     → appendedOf a e ≡ appended d at xs → appendedOf b f ≡ appended e a ys → appendedOf b f ≡ appended d at (xs ++ ys)
 appended-after d at xs ys a b e f h p q =
     let m : length (xs ++ ys) ≡ length xs + length ys = length-append xs ys in
-    let i : a ≡ at + length xs = appended-place d at xs a e p (omega arith) in
+    let i : a ≡ at + length xs = appended-next d at xs a e p (omega arith) in
     let n : length e ≡ length d = appended-length d at xs a e p in
-    let j : b ≡ a + length ys = appended-place e a ys b f q (omega arith) in
+    let j : b ≡ a + length ys = appended-next e a ys b f q (omega arith) in
     let k : b ≡ at + length (xs ++ ys) = omega arith in
     let g : f ≡ put d at (xs ++ ys) =
     appended-room e a ys b f q ∙ ap (λ (s : List ℕ). put s a ys) (appended-room d at xs a e p) ∙ put-after d at xs ys a i (omega arith) in
@@ -100,7 +100,7 @@ appended-after d at xs ys a b e f h p q =
 -- what was written from the start of a room is the part up to the offset after it
 pub appended-part : (d xs : List ℕ) (c : ℕ) (g : List ℕ) → length xs ≤ length d → appendedOf c g ≡ appended d 0 xs → octetsAt c g 0 ≡ xs
 appended-part d xs c g h p =
-    let n : c ≡ 0 + length xs = appended-place d 0 xs c g p (omega arith) in
+    let n : c ≡ 0 + length xs = appended-next d 0 xs c g p (omega arith) in
     let k : length xs ≡ c = omega arith in
     part-is c g 0 xs k (λ i l. ap (λ (s : List ℕ). getD s (0 + i) 0) (appended-room d 0 xs c g p) ∙ getD-put d 0 xs (omega arith) i (omega arith))
 

@@ -7,11 +7,11 @@ use Rattle.replay.proofs.log.answer_filled.Statement.{statement}
 use Rattle.replay.proofs.log.answer_filled.Tie as tie
 
 abbrev Inv-loop : tie.InvT-loop
-Inv-loop log whole from loaded buffer₀ out₀ accounts credits₀ lasts₀ links at₀ place₀ frames₀ buffer out credits lasts at next frames =
+Inv-loop log whole from loaded buffer₀ out₀ accounts credits₀ lasts₀ links at₀ next₀ frames₀ buffer out credits lasts at next frames =
     (length out ≡ length out₀) × (length credits ≡ length credits₀) × (length lasts ≡ length lasts₀)
 
 abbrev μ-loop : tie.MeasureT-loop
-μ-loop log whole from loaded buffer₀ out₀ accounts credits₀ lasts₀ links at₀ place₀ frames₀ buffer out credits lasts at next frames = 2 ^ 64 - frames
+μ-loop log whole from loaded buffer₀ out₀ accounts credits₀ lasts₀ links at₀ next₀ frames₀ buffer out credits lasts at next frames = 2 ^ 64 - frames
 
 loop-holds : tie.Need-loop-holds Inv-loop μ-loop
 loop-holds c = search needs

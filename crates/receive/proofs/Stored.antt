@@ -35,12 +35,12 @@ module _ (P : List ℕ → List ℕ → Type 0) (j i : ℕ)
       let l = delivered-inside (f .network) (f .number) _ refl h in
       step _ _ _ _ (omega arith) (step _ _ _ _ (awaiting-inside (f .network) (f .number) _ refl h) p)
 
-  pub kept-left : (r s : List ℕ) (f : Arrival) → f .number < numberCount → (a : Reception) → P r s → P (memoryAfter r j f a) (memoryAfter s i f a)
-  kept-left r s f h UnknownLink p = p
-  kept-left r s f h Late p = p
-  kept-left r s f h OutOfSequence p = kept-noted r s f p
-  kept-left r s f h Copy p = kept-met _ _ (other (f .network)) (f .number) h (kept-noted r s f p)
-  kept-left r s f h Delivered p = kept-delivered _ _ f h (kept-noted r s f p)
+  pub stored-left : (r s : List ℕ) (f : Arrival) → f .number < numberCount → (a : Reception) → P r s → P (memoryAfter r j f a) (memoryAfter s i f a)
+  stored-left r s f h UnknownLink p = p
+  stored-left r s f h Late p = p
+  stored-left r s f h OutOfSequence p = kept-noted r s f p
+  stored-left r s f h Copy p = kept-met _ _ (other (f .network)) (f .number) h (kept-noted r s f p)
+  stored-left r s f h Delivered p = kept-delivered _ _ f h (kept-noted r s f p)
 
 -- ---- what the memory says once a frame's time and number are noted
 length-noted : (r : List ℕ) (j : ℕ) (f : Arrival) → length (noted r j f) ≡ length r
@@ -139,6 +139,6 @@ module _ (r : List ℕ) (j : ℕ) (f : Arrival) where
 -- ---- the memories of other rows
 pub left-beside : (r : List ℕ) (j : ℕ) (f : Arrival) (a : Reception) → f .number < numberCount → (i : ℕ) → (i ≡ j → ⊥) → SameMemory (memoryAfter r j f a) i r i
 left-beside r j f a h i d =
-    kept-left (λ s t. SameMemory s i r i) j j
+    stored-left (λ s t. SameMemory s i r i) j j
     (λ s t k v l p m q. word-beside s j k i m v d l q ∙ p m q)
     r r f h a (λ m q. refl)
