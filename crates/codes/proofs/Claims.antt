@@ -3,4 +3,5 @@ use mathlib.Core.Path.{refl}
 use Rattle.codes.specs.Claims.{CodeFigures}
 
 pub code-figures : CodeFigures
-code-figures = (refl, refl, refl)
+code-figures =
+    (refl, refl, refl, refl, refl, refl, refl, refl, refl, refl, refl, refl, refl, refl, refl, refl, refl, refl, refl, refl)

@@ -4,7 +4,7 @@ use Prim.Native.Nat.{ℕ}
 use mathlib.Core.List.{List, [], _∷_}
 use lib.ListN.{replicate}
 use Rattle.octets.specs.Runs.{joined, put}
-use Rattle.terms.specs.Terms.{capacity}
+use Rattle.terms.specs.Terms.{capacity, checkedCapacity}
 use Rattle.rows.specs.Rows.{Rows, rowOctets}
 use Rattle.tables.specs.Rows.{accountOctets, linkOctets, accountIn}
 use Rattle.image_field.specs.Checks.{accountFields, linkFields}
@@ -31,6 +31,10 @@ fullCredit a i = capacity (accountIn a i)
 
 unfoldable pub capacities : Rows → ℕ → List ℕ
 capacities a n = joined (λ i. fullCredit a i ∷ []) n
+
+-- the same as the code takes them, 0 for values that break a limit; an accepted image has none
+abbrev pub checkedCapacities : List ℕ → ℕ → List ℕ
+checkedCapacities s n = joined (λ i. checkedCapacity (accountIn (accountFields s) i) ∷ []) n
 
 -- the runs begin with that, and are otherwise as they were
 unfoldable pub filled : List ℕ → ℕ → ℕ → Runs → Runs

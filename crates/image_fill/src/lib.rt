@@ -1,5 +1,4 @@
 // Filling the lent runs from an image. A run that is too short is left as it is. Every function is total.
-ghost use mathlib.Core.List.{[], _∷_};
 ghost use mathlib.Core.Path.{_≡_};
 ghost use lib.ListN.{replicate};
 ghost use Rattle.octets.specs.Runs.{joined, put};
@@ -7,7 +6,7 @@ ghost use Rattle.terms.specs.Terms.{checkedCapacity};
 ghost use Rattle.rows.specs.Rows.{rowOctets};
 ghost use Rattle.tables.specs.Rows.{accountIn};
 ghost use Rattle.image_field.specs.Checks.{fieldRows, accountFields};
-ghost use Rattle.image_fill.specs.Filling.{accountRows, linkRows};
+ghost use Rattle.image_fill.specs.Filling.{checkedCapacities, accountRows, linkRows};
 
 // The data of n fields of `size` octets, the first at `first`, written side by side.
 fn copy_rows(image: &[u8], first: usize, size: u8, n: u16, rows: &mut [u8])
@@ -35,7 +34,7 @@ fn capacity_of(image: &[u8], i: u16) -> u32
 
 // The capacities of the first n accounts.
 fn fill_credits(image: &[u8], n: u16, credits: &mut [u32])
-    ensures { λ r. ⌜ now (credits .exit) ≡ put (now (credits .entry)) 0 (joined (λ i. checkedCapacity (accountIn (accountFields (now (image .entry))) i) ∷ []) n) ⌝ }
+    ensures { λ r. ⌜ now (credits .exit) ≡ put (now (credits .entry)) 0 (checkedCapacities (now (image .entry)) n) ⌝ }
 {
     if !octets::has_room(credits.len(), 0, n as usize) {
         return;
@@ -72,7 +71,7 @@ pub fn fill_runs(
     links: &mut [u8],
 )
     ensures accounts { λ r. ⌜ now (accounts .exit) ≡ put (now (accounts .entry)) 0 (accountRows (now (image .entry)) n) ⌝ }
-    ensures credits { λ r. ⌜ now (credits .exit) ≡ put (now (credits .entry)) 0 (joined (λ i. checkedCapacity (accountIn (accountFields (now (image .entry))) i) ∷ []) n) ⌝ }
+    ensures credits { λ r. ⌜ now (credits .exit) ≡ put (now (credits .entry)) 0 (checkedCapacities (now (image .entry)) n) ⌝ }
     ensures lasts { λ r. ⌜ now (lasts .exit) ≡ put (now (lasts .entry)) 0 (replicate n 0) ⌝ }
     ensures links { λ r. ⌜ now (links .exit) ≡ put (now (links .entry)) 0 (linkRows (now (image .entry)) n m) ⌝ }
 {

@@ -56,7 +56,9 @@ pub fn load(
     lasts: &mut [u64],
     links: &mut [u8],
 ) -> ImageAnswer
-    ensures { λ r. ⌜ loadingOf r (runsOf (now (accounts .exit)) (now (credits .exit)) (now (lasts .exit)) (now (links .exit))) ≡ loading (now (image .entry)) (runsOf (now (accounts .entry)) (now (credits .entry)) (now (lasts .entry)) (now (links .entry))) ⌝ }
+    ensures { λ r. ⌜ loadingOf r (runsOf (now (accounts .exit)) (now (credits .exit)) (now (lasts .exit)) (now (links .exit)))
+        ≡ loading (now (image .entry))
+        (runsOf (now (accounts .entry)) (now (credits .entry)) (now (lasts .entry)) (now (links .entry))) ⌝ }
 {
     let answer = load_answer(
         image,

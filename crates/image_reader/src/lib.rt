@@ -31,7 +31,9 @@ pub fn load<'s, 'a>(
     lasts: &mut [u64],
     links: &mut [u8],
 ) -> ImageAnswer
-    ensures { λ q. ⌜ loadingOf q (runsOf (now (accounts .exit)) (now (credits .exit)) (now (lasts .exit)) (now (links .exit))) ≡ loading (now (now (r .entry) .image)) (runsOf (now (accounts .entry)) (now (credits .entry)) (now (lasts .entry)) (now (links .entry))) ⌝ }
+    ensures { λ q. ⌜ loadingOf q (runsOf (now (accounts .exit)) (now (credits .exit)) (now (lasts .exit)) (now (links .exit)))
+        ≡ loading (now (now (r .entry) .image))
+        (runsOf (now (accounts .entry)) (now (credits .entry)) (now (lasts .entry)) (now (links .entry))) ⌝ }
     ensures { λ q. ⌜ (now (r .exit) .image ≡ now (r .entry) .image) × (now (r .exit) .at ≡ q .offset) ⌝ }
 {
     let answer = image_load::load(r.image, accounts, credits, lasts, links);

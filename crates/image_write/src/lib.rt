@@ -85,7 +85,8 @@ pub fn write(
     link_count: usize,
     room: &mut [u8],
 ) -> Written
-    ensures { λ r. ⌜ writingOf r (now (room .exit)) ≡ writing (configOf constant (now (accounts .entry)) «account_count» (now (links .entry)) «link_count») (now (room .entry)) ⌝ }
+    ensures { λ r. ⌜ writingOf r (now (room .exit))
+        ≡ writing (configOf constant (now (accounts .entry)) «account_count» (now (links .entry)) «link_count») (now (room .entry)) ⌝ }
 {
     let answer = write_answer(
         constant,
