@@ -64,7 +64,7 @@ StepBelowCapacity =
     (a : Account) (n t : ℕ) → n ≤ termsOf a .smax → (policed a n t .says .code ≡ 0) ⊎ (policed a n t .says .code ≡ 9)
     → policed a n t .account .credit < capacity (termsOf a)
 
--- 8 reports the credit held, of a time before the last; 1, 2 and 10 report no credit
+-- 8 reports the credit held, the frame's time being before the last; 1, 2 and 10 report no credit
 abbrev pub Reports : Account → ℕ → StepReport → Type 0
 Reports a t w =
     (w .code ≡ 8 → (w .credit ≡ some (a .credit)) × (t < a .last))

@@ -1,6 +1,6 @@
 // A bandwidth account and its policing step (ARINC 664P7 traffic policing). Credit is counted in octets times the
 // microseconds of the BAG, so no sum is ever rounded. Accounts are taken and given by value; `police_in_place` alone
-// changes a record that is lent.
+// changes an account that is lent.
 ghost use mathlib.Core.Path.{_≡_};
 ghost use Prim.Native.Nat.{_+_, _*_, _≤_, min};
 ghost use Rattle.account.specs.Account.{holding, creditUpTo, capacityOf, costOf, toppedUp, debited};

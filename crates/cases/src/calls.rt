@@ -23,7 +23,7 @@ use switch::Ingress;
 use switch_verdict::Verdict;
 use tables::Settings;
 
-// A code that leaves a credit, and one that leaves nothing.
+// Prints a code with the credit that it carries; and a code that carries none.
 fn held(code: u8, credit: u32) {
     say::number(code as u64);
     say::mark(b'-');

@@ -3,7 +3,7 @@
 //   row row number SkewMax        rows 0 to 2
 //   lent octets words             how much is lent of rows and memories
 //   empty                         all words of all memories are 0
-//   word row offset value         a word of a memory
+//   word row place value          a word of a memory, by its index
 //   show row                      the memory that is printed with each answer
 //   A link number time            a frame on network A
 //   B link number time            and on network B

@@ -1,5 +1,5 @@
--- The numbers of the codes (document 01, "Codes, in order of checking" and "The configuration image"; document 02, Q-1), in figures;
--- proved in proofs/Claims.antt.
+-- The numbers of the codes (document 01, "Codes, in order of checking" and "The configuration image"; document 02, Q-1), in
+-- figures; proved in proofs/Claims.antt.
 use mathlib.Core.Path.{_≡_}
 use Rattle.codes.specs.Codes
 

@@ -1,6 +1,7 @@
--- The starred cases of the bench sheet (document 01, "Bench sheet") as one statement, from the octets of image P through loading and
--- the frame call. The cases, with octets, time, code and credit, are those of account_rule's table, where the figures beside them stand too: the
--- cost of case 3, the sums of case 4 and the top-up of case 10, of the account values that image P is here said to have.
+-- The starred cases of the bench sheet (document 01, "Bench sheet") as one statement, from the octets of image P through
+-- loading and the frame call. The cases, with octets, time, code and credit, are those of account_rule's table. The cost of
+-- case 3, the sums of case 4 and the top-up of case 10 stand there too, for the account values that image P is shown here to
+-- have.
 use Prim.Native.Nat.{ℕ, _-_, _^_}
 use mathlib.Core.Bool.{true}
 use mathlib.Core.List.{List, _∷_, map}
@@ -40,8 +41,8 @@ caseAnswers s r cases = callAnswers (loadedTables s r) (stateIn (loading s r .ru
 abbrev pub stateAfter : List ℕ → Runs → List Case → State
 stateAfter s r cases = finalState (loadedTables s r) (stateIn (loading s r .runs)) (calls cases)
 
--- what loading answers, and the account that image P names; case 1; cases 2 to 10, and what the account then holds; case 11. From runs
--- of any content, long enough for one account and one link
+-- what loading answers, and the account that image P names; case 1; cases 2 to 10, and what the account then holds; case 11.
+-- From runs of any content, long enough for one account and one link
 abbrev pub CallBenchTable : Type 0
 CallBenchTable =
     (r : Runs) → longEnough 1 1 r ≡ true

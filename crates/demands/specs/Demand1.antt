@@ -1,6 +1,6 @@
--- Demand 1, of document 01's calls: every call answers, and a refusal changes nothing. The statements stand with the calls that they
--- are about; here they are gathered. All are for any input whatsoever. Proved in proofs/Demands.antt. The receiving end's are gathered
--- in receive_history.
+-- Demand 1, of document 01's calls: every call answers, and a refusal changes nothing. The statements stand with the calls that
+-- they are about; here they are gathered. All are for any input whatsoever. Proved in proofs/Demands.antt. The receiving end's
+-- are gathered in receive_history.
 use Rattle.frame.specs.Claims.{ReadingAnswers, ReadingRefused}
 use Rattle.account.specs.Claims.{StepAnswers, RefusedStepKeeps, RefusedStepReports, StepsApart, ShortStepTopsUp}
 use Rattle.image_read.specs.Claims.{ReadCodes}
@@ -18,8 +18,8 @@ pub record Answers : Type 0 where
   pub image-loading : LoadCodes
   pub image-writing : WriteCodes
 
--- what a refusal leaves: everything, but that 9 brings its account to the frame's time ("Codes, in order of checking", after it). The
--- other exception, a reader's place, is the second promise of image_reader's `load`: it is then the offset answered
+-- what a refusal leaves: everything, but that 9 brings its account to the frame's time ("Codes, in order of checking", after
+-- it). The other exception, a reader's place, is the second promise of image_reader's `load`: it is then the offset answered
 pub record RefusalsKeep : Type 0 where
   pub frame-call : RefusedCallKeeps
   pub frame-call-effects : CallEffects

@@ -1,6 +1,6 @@
--- Demand 2: every answer is the right one. That each call's answer is document 01's is its contract, an equation with the definition
--- that states it; here are gathered the readings of these definitions that document 01 and document 02's Q-3 settle by themselves, and
--- the round trips. Proved in proofs/Demands.antt.
+-- Demand 2: every answer is the right one. That each call's answer is document 01's is its contract, an equation with the
+-- definition that states it; here are gathered the readings of these definitions that document 01 and document 02's Q-3 settle
+-- by themselves, and the round trips. Proved in proofs/Demands.antt.
 use Rattle.codes.specs.Claims.{CodeFigures}
 use Rattle.octets.specs.Claims.{ReadsBack, WritesBack}
 use Rattle.rows.specs.Claims.{RowsInUse}
@@ -21,8 +21,8 @@ use Rattle.image_round_trip.specs.RoundTrips.{AcceptedIsImage, ImageIsAccepted,
 use Rattle.switch.specs.Claims.{CodesInOrder, CallEffects, LengthAlone, PortsBeyond, RowsBeyondUnread}
 use Rattle.demands.specs.Bench.{CallBenchTable}
 
--- writing and then loading, and loading and then writing ("The configuration image"); octets are accepted exactly where they are the
--- image of good tables
+-- writing and then loading, and loading and then writing ("The configuration image"); octets are accepted exactly where they
+-- are the image of good tables
 pub record RoundTrips : Type 0 where
   pub written-reads-back : WriteRead
   pub read-writes-back : ReadWrite
@@ -63,7 +63,8 @@ pub record Images : Type 0 where
   pub first-bad-account : FirstBadAccount
   pub first-bad-link : FirstBadLink
 
--- the figures of document 01 and of Q-3: limits at both sides, the formulas of each mode, and the starred cases of the bench sheet
+-- the figures of document 01 and of Q-3: limits at both sides, the formulas of each mode, and the starred cases of the bench
+-- sheet
 pub record Figures : Type 0 where
   pub codes : CodeFigures
   pub lengths : LengthLimits

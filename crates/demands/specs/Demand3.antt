@@ -24,8 +24,8 @@ use Rattle.demands.specs.Rule.{imageTerms, linkRow, accountNamed, filter
 
 -- ---- first half
 
--- for any octets that load into any runs, and any list of calls on what loading left and answered: the codes of the whole list are
--- the rule's
+-- for any octets that load into any runs, and any list of calls on what loading left and answered: the codes of the whole list
+-- are the rule's
 abbrev pub RuleOfHistory : Type 0
 RuleOfHistory =
     (s : List ℕ) (r : Runs) → loading s r .answer .code ≡ 0 → (h : List Call)
@@ -35,14 +35,14 @@ RuleOfHistory =
 abbrev pub RuleOfFreshTables : Type 0
 RuleOfFreshTables = (s : List ℕ) (r : Runs) → Fresh s r → (h : List Call) → callCodes (callAnswers (configIn s r) (stateIn r) h) ≡ ruleCodes s h
 
--- in words, for a frame f on account a after a past, and the code that it got: 0 exactly where, from itself and from each frame that
--- reached the account earlier, the costs forwarded since and its own are within the allowance; else 9
+-- in words, for a frame f on account a after a past, and the code that it got: 0 exactly where, from itself and from each frame
+-- that reached the account earlier, the costs forwarded since and its own are within the allowance; else 9
 pub record Judged (s : List ℕ) (past : List Call) (f : Call) (a code : ℕ) : Type 0 where
   pub exactly : (code ≡ 0) ↔ FromEach (allowance (imageTerms s a)) (f .time) (cost (imageTerms s a) (length (f .octets))) (reachedIn s past a)
   pub otherwise : (FromEach (allowance (imageTerms s a)) (f .time) (cost (imageTerms s a) (length (f .octets))) (reachedIn s past a) → ⊥) → code ≡ 9
 
--- of every frame that reaches its account after the calls `before`: no code before 8 fits it, and no frame that reached the account
--- is later
+-- of every frame that reaches its account after the calls `before`: no code before 8 fits it, and no frame that reached the
+-- account is later
 abbrev pub RuleInWords : Type 0
 RuleInWords =
     (s : List ℕ) (r : Runs) → Fresh s r → (before : List Call) (f : Call) → filterCode s f ≡ 0
@@ -67,8 +67,8 @@ TenNever = (s : List ℕ) (r : Runs) → Fresh s r → (h : List Call) (c : ℕ)
 abbrev pub SameMeant : List ℕ → ℕ → List Call → List Call → Type 0
 SameMeant s a h h′ = only (meant s a) h ≡ only (meant s a) h′
 
--- what two histories, each from its own tables, then share: the answers to these calls, code, mask and credit; and what account a holds
--- in the end
+-- what two histories, each from its own tables, then share: the answers to these calls, code, mask and credit; and what account
+-- a holds in the end
 pub record SameAnswers (s : List ℕ) (a : ℕ) (g : Config) (t : State) (h : List Call) (g′ : Config) (t′ : State) (h′ : List Call) : Type 0 where
   pub verdicts : answersTo (meant s a) h (callAnswers g t h) ≡ answersTo (meant s a) h′ (callAnswers g′ t′ h′)
   pub credit : getD (finalState g t h .credits) a 0 ≡ getD (finalState g′ t′ h′ .credits) a 0
@@ -91,8 +91,8 @@ IsolationOfFreshTables =
     → SameMeant s a h h′
     → SameAnswers s a (configIn s r) (stateIn r) h (configIn s r′) (stateIn r′) h′
 
--- whether frames are meant for account 0, on image P with 0 for its link's number: to number 0, one of 5 octets, the last of the number
--- missing, is not; of 6 and of 63 they are; one to number 7 is not. One of 63 to number 0 is not meant for account 1
+-- whether frames are meant for account 0, on image P with 0 for its link's number: to number 0, one of 5 octets, the last of
+-- the number missing, is not; of 6 and of 63 they are; one to number 7 is not. One of 63 to number 0 is not meant for account 1
 abbrev pub zeroImageP : List ℕ
 zeroImageP = set imageP 21 0
 
@@ -105,7 +105,8 @@ MeantLimits =
     × (map (meant zeroImageP 0) (destined 0 5 ∷ destined 0 6 ∷ destined 0 63 ∷ destined 7 63 ∷ []) ≡ false ∷ true ∷ true ∷ false ∷ [])
     × (meant zeroImageP 1 (destined 0 63) ≡ false)
 
--- ---- the whole of it, with the rule read literally, the allowance by mode (document 02, Q-3) and the claim for lists of policing steps
+-- ---- the whole of it, with the rule read literally, the allowance by mode (document 02, Q-3) and the claim for lists of
+-- policing steps
 pub record Demand3 : Type 0 where
   pub rule : RuleOfHistory
   pub rule-of-fresh-tables : RuleOfFreshTables

@@ -1,4 +1,5 @@
--- Histories (document 01, "The terms of demand 3"): lists of frame calls from tables just loaded, each on what the call before left.
+-- Histories (document 01, "The terms of demand 3"): lists of frame calls from tables just loaded, each on what the call before
+-- left.
 use Prim.Native.Nat.{ℕ}
 use mathlib.Core.List.{List, map}
 use Rattle.lists.specs.History

@@ -1,5 +1,6 @@
--- Answers of document 01 and of request Q-1 as programs in other languages get them: a number for each part, 0 for a mask or a credit that an answer
--- doesn't carry. By its code a caller knows which it carries ("Codes, in order of checking": the verdict carries its own data).
+-- Answers of document 01 and of request Q-1 in numbers, as programs in other languages get them: one for each part, 0 for a
+-- mask or a credit that an answer doesn't carry. By its code a caller knows which it carries ("Codes, in order of checking":
+-- the verdict carries its own data).
 use Prim.Native.Nat.{ℕ}
 use mathlib.Core.List.{List}
 use mathlib.Core.Option.{Option, none, some}

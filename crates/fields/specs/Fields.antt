@@ -1,4 +1,5 @@
--- Tagged fields (document 01, "The configuration image" and "The replay program"): one octet tag, two octets length, then the data.
+-- Tagged fields (document 01, "The configuration image" and "The replay program"): one octet tag, two octets length, then the
+-- data.
 use Prim.Native.Nat.{ℕ, _+_}
 use mathlib.Core.Bool.{Bool, _&&_}
 use mathlib.Core.List.{List, _∷_, _++_}

@@ -1,5 +1,5 @@
--- The codes of the filter (document 01, "Codes, in order of checking", 1 to 7 without 10). The frame call and the rule over a
--- history both cite them.
+-- The codes of the filter (document 01, "Codes, in order of checking", 1 to 7; 10, which the table has between 4 and 5, is the
+-- frame call's). The frame call and the rule over a history both cite them.
 use Prim.Native.Nat.{ℕ}
 use mathlib.Core.Bool.{not}
 use mathlib.Core.List.{List}

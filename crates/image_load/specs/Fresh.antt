@@ -25,7 +25,8 @@ pub record Fresh (s : List ℕ) (r : Runs) : Type 0 where
   pub lasts : Begins (replicate (readImage s .settings .accounts) 0) (r .lasts)
   pub links : Begins (linkRows s (readImage s .settings .accounts) (readImage s .settings .links)) (r .links)
 
--- loading that answers 0 answers what reading does, constant field and counts, and leaves fresh tables; nothing is asked of the runs
+-- loading that answers 0 answers what reading does, constant field and counts, and leaves fresh tables; nothing is asked of the
+-- runs
 abbrev pub LoadFresh : Type 0
 LoadFresh =
     (s : List ℕ) (r : Runs) → loading s r .answer .code ≡ 0

@@ -1,5 +1,5 @@
--- Image P of the bench sheet (document 01, "Bench sheet"), octet by octet: what it reads as, what its rows say, and what it is the
--- image of. Proved in proofs/Bench.antt.
+-- Image P of the bench sheet (document 01, "Bench sheet"), octet by octet: what it reads as, what its rows say, and what it is
+-- the image of. Proved in proofs/Bench.antt.
 use Prim.Native.Nat.{ℕ}
 use mathlib.Core.List.{List, [], _∷_, _++_}
 use mathlib.Core.Path.{_≡_}

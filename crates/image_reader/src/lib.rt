@@ -1,4 +1,4 @@
-// An image together with an offset in it. These functions are proved by hand.
+// A reader: an image and a place in it. These functions are proved by hand.
 ghost use mathlib.Core.Path.{_≡_};
 ghost use Rattle.image_load.specs.Loading.{loadingOf, loading};
 ghost use Rattle.image_fill.specs.Filling.{runsOf};
@@ -16,14 +16,14 @@ pub fn new<'a>(image: &'a [u8]) -> Reader<'a>
     Reader { image, at: 0 }
 }
 
-// The offset.
+// The reader's place.
 pub fn at<'a>(r: Reader<'a>) -> usize
     ensures { λ n. ⌜ n ≡ r .entry .at ⌝ }
 {
     r.at
 }
 
-// Loads the whole image from its first octet, whatever the offset; the offset is then the offset answered.
+// Loads the whole image from its first octet, whatever the place; the place is then the offset answered.
 pub fn load<'s, 'a>(
     r: &'s mut Reader<'a>,
     accounts: &mut [u8],

@@ -1,5 +1,5 @@
 -- Demand 2: the round trips, both ways, over the layout and through the very definitions that the contracts of `load` and `write`
--- cite; proved in proofs/Trips.antt.
+-- cite; proved in proofs/RoundTrips.antt.
 use Prim.Native.Nat.{ℕ, _*_, _^_, _≤_, _<_}
 use mathlib.Core.Bool.{true}
 use mathlib.Core.List.{List}
@@ -53,8 +53,8 @@ readBack g r =
     (put (r .lasts) 0 (replicate (g .accountCount) 0))
     (put (r .links) 0 (take (linkOctets * g .linkCount) (g .links))))
 
--- for any tables that the writer accepts, with whatever rows lie beyond the counts, any room and any runs that are long enough; the
--- constant field is one of 32 bits
+-- for any tables that the writer accepts, with whatever rows lie beyond the counts, any room and any runs that are long enough;
+-- the constant field is one of 32 bits
 abbrev pub WriteRead : Type 0
 WriteRead =
     (g : Config) (d : List ℕ) (r : Runs) → g .constant < 2 ^ 32 → writing g d .answer .code ≡ 0

@@ -1,5 +1,5 @@
--- What holds of writing for any tables, counts and room whatsoever (document 01, "The configuration image", the writer); proved in
--- proofs/Claims.antt.
+-- What holds of writing for any tables, counts and room whatsoever (document 01, "The configuration image", the writer); proved
+-- in proofs/Claims.antt.
 use Prim.Native.Nat.{ℕ, _≤_, _<_}
 use mathlib.Core.Bool.{true, false}
 use mathlib.Core.List.{List, [], _∷_, _++_, List·Memᴰ}
@@ -18,7 +18,7 @@ WriteCodes = (g : Config) (d : List ℕ) → List·Memᴰ (writing g d .answer .
 abbrev pub RefusedWriteKeeps : Type 0
 RefusedWriteKeeps = (g : Config) (d : List ℕ) → (writing g d .answer .code ≡ 0 → ⊥) → writing g d .room ≡ d
 
--- 24 and 26 come with a 0, success with the image's length
+-- 24 and 26 come with offset 0, success with the image's length
 abbrev pub WriteOffsets : Type 0
 WriteOffsets =
     (g : Config) (d : List ℕ)

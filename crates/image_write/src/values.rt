@@ -55,7 +55,7 @@ fn bad_link(accounts: &[u8], n: u16, links: &[u8], m: u16) -> u16
     j
 }
 
-// 23 and where, or the length of the image.
+// 23 with the offset that the first bad field would have, or 0 with the length of the image.
 pub(crate) fn value_answer(constant: u32, accounts: &[u8], n: u16, links: &[u8], m: u16) -> Written
     ensures { λ r. ⌜ r ≡ valueAnswer (configOf constant (now (accounts .entry)) n (now (links .entry)) m) ⌝ }
 {

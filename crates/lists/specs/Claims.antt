@@ -6,7 +6,8 @@ use mathlib.Core.Path.{_≡_}
 use lib.Dec.{eqb}
 use Rattle.lists.specs.Lists.{only, answersTo}
 
--- where each call is answered by itself, the answers to the picked calls are those of the list of picked calls; and two of three
+-- where each call is answered by itself, the answers to the picked calls are those of the list of picked calls; in figures, the
+-- first and the third of three
 abbrev pub PickedAnswers : Type 0
 PickedAnswers =
     ((p : ℕ → Bool) (f : ℕ → ℕ) (h : List ℕ) → answersTo p h (map f h) ≡ map f (only p h))

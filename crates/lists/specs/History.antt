@@ -1,5 +1,5 @@
--- Histories: lists of calls, each on the state that the call before left. Calls, answers and states are of any types: a call may be
--- one of several kinds, a state several runs.
+-- Histories: lists of calls, each on the state that the call before left. Calls, answers and states are of any types: a call
+-- may be one of several kinds, a state several runs.
 use mathlib.Core.List.{List, [], _∷_}
 
 -- how calls are answered: what a call on a state answers, and the state that it leaves

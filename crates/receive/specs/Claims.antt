@@ -1,4 +1,5 @@
--- What holds of one call of the receiving end for any rows and memories whatsoever (document 02, Q-1); proved in proofs/Claims.antt.
+-- What holds of one call of the receiving end for any rows and memories whatsoever (document 02, Q-1); proved in
+-- proofs/Claims.antt.
 use Prim.Native.Nat.{ℕ, _+_, _*_, _≤_, _<_}
 use mathlib.Core.List.{List, [], _∷_, List·Memᴰ}
 use mathlib.Core.Logic.{_⊎_, _↔_}

@@ -1,5 +1,5 @@
--- What a receiving end is lent (document 02, Q-1): a row for each link and, in a run of their own, a memory for each row in use. The
--- papers leave their form open; it is stated here.
+-- What a receiving end is lent (document 02, Q-1): a row for each link and, in a run of their own, a memory for each row in
+-- use. The papers leave their form open; it is stated here.
 use Prim.Native.Nat.{ℕ, _+_, _*_, _/_}
 use mathlib.Core.List.{List}
 use mathlib.Core.Option.{Option}
@@ -25,8 +25,8 @@ skewRowOctets = 6
 unfoldable pub skewIn : List ℕ → ℕ → ℕ
 skewIn rows j = numberAt 4 rows (skewRowOctets * j + 2)
 
--- a memory, which is document 02's record, in words of 64 bits: the link's last time, the last number on each network, and for each network and number two words,
--- for the delivery that may await its copy; 3 + 2 × 256 × 2
+-- a memory, which is document 02's record, in words of 64 bits: the link's last time, the last number on each network, and for
+-- each network and number two words, for the delivery that may await its copy; 3 + 2 × 256 × 2
 abbrev pub memoryWords : ℕ
 memoryWords = 1027
 
@@ -45,7 +45,8 @@ word r j k = getD r (memoryWords * j + k) 0
 unfoldable pub store : List ℕ → ℕ → ℕ → ℕ → List ℕ
 store r j k v = set r (memoryWords * j + k) v
 
--- ---- a memory's words. All are 0 in an empty memory
+-- ---- the indices of a memory's words: the last time; the last number on a network; whether the delivery of n on a network
+-- awaits its copy, and its time. All words are 0 in an empty memory
 abbrev pub timeWord : ℕ
 timeWord = 0
 
@@ -58,8 +59,8 @@ awaitingWord x n = 3 + 512 * index x + 2 * n
 abbrev pub deliveredWord : Network → ℕ → ℕ
 deliveredWord x n = 4 + 512 * index x + 2 * n
 
--- ---- what memory j says: the link's last time, the last number received on a network, the time of the delivery of n on a network
--- that awaits its copy
+-- ---- what memory j says: the link's last time, the last number received on a network, the time of the delivery of n on a
+-- network that awaits its copy
 abbrev pub latestTime : List ℕ → ℕ → ℕ
 latestTime r j = word r j timeWord
 

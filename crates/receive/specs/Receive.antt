@@ -1,4 +1,5 @@
--- The receiving end's call (document 02, Q-1): what it answers and the memories that it leaves, for any rows and memories whatsoever.
+-- The receiving end's call (document 02, Q-1): what it answers and the memories that it leaves, for any rows and memories
+-- whatsoever.
 use Prim.Native.Nat.{ℕ}
 use mathlib.Core.List.{List}
 use lib.ListN.{length}
@@ -10,8 +11,8 @@ use Rattle.receive_answer.specs.declared.Reception.the-variants.{Delivered, Cop
 use Rattle.receive.specs.Lent.{skewIn, rowFound, latestTime, lastNumber, awaiting, noted, met, delivered}
 use Rattle.receive_answer.specs.Answer.{receptionBy, other}
 
--- ---- what an answer leaves in memory j: the two refusals nothing; any other stores the number and the time; a copy is then met by the
--- delivery that it belongs to, and a delivery awaits its copy
+-- ---- what an answer leaves in memory j: the two refusals nothing; any other stores the number and the time; after
+-- a copy the delivery that it belongs to has met it, and a delivery awaits its copy
 abbrev pub memoryAfter : List ℕ → ℕ → Arrival → Reception → List ℕ
 memoryAfter r j f UnknownLink = r
 memoryAfter r j f Late = r
@@ -29,7 +30,7 @@ pub record Received : Type 0 where
 abbrev pub receivedOf : Reception → List ℕ → Received
 receivedOf a r = record { says = a; memory = r }
 
--- by memory j, on a link with this SkewMax
+-- the answer by memory j, on a link with this SkewMax
 unfoldable pub answerBy : ℕ → List ℕ → ℕ → Arrival → Reception
 answerBy skew r j f =
     receptionBy skew (latestTime r j) (lastNumber r j (f .network)) (awaiting r j (other (f .network)) (f .number)) (f .number) (f .time)
@@ -37,7 +38,7 @@ answerBy skew r j f =
 abbrev pub onMemory : ℕ → List ℕ → ℕ → Arrival → Received
 onMemory skew r j f = receivedOf (answerBy skew r j f) (memoryAfter r j f (answerBy skew r j f))
 
--- by the row found: 4 where there is none
+-- what is answered and left, by the row found: 4 where there is none
 abbrev pub onRow : List ℕ → List ℕ → Arrival → Found → Received
 onRow rows r f Nowhere = receivedOf UnknownLink r
 onRow rows r f (At j) = onMemory (skewIn rows j) r j f

@@ -21,7 +21,7 @@ pub const ROW_OCTETS: usize = rows::NUMBER_OCTETS + SKEW_OCTETS as usize;
 // Words of a memory; all are 0 where it is empty.
 pub const MEMORY_WORDS: usize = 1027;
 
-// The same by the memory of a row.
+// What a frame is answered, by the memory of its link's row.
 fn answer_by(skew: u32, memory: &[u64], row: usize, frame: Arrival) -> Reception
     requires { ⌜ memoryWords * row + memoryWords ≤ length (now memory) ⌝ }
     ensures { λ r. ⌜ r ≡ answerBy skew (now (memory .entry)) row frame ⌝ }

@@ -10,7 +10,7 @@ use receive_answer::Arrival;
 use receive_answer::Network;
 use receive_answer::Reception;
 
-// The link's last time.
+// The index of the word with the link's last time.
 pub(crate) const TIME_WORD: usize = 0;
 
 fn index(network: Network) -> usize
@@ -22,15 +22,15 @@ fn index(network: Network) -> usize
     }
 }
 
-// The last number that was received on a network.
+// The index of the word with the last number received on a network.
 pub(crate) fn number_word(network: Network) -> usize
     ensures { λ r. ⌜ r ≡ numberWord network ⌝ }
 {
     1 + index(network)
 }
 
-// Whether the delivery of a number on a network awaits its copy; its time is in the word after. Two words a number,
-// 256 numbers a network, after the time and the two last numbers.
+// The index of the word that says whether the delivery of a number on a network awaits its copy; its time is in the next
+// word. Two words a number, 256 numbers a network, after the time and the two last numbers.
 pub(crate) fn awaiting_word(network: Network, number: u8) -> usize
     ensures { λ r. ⌜ r ≡ awaitingWord network number ⌝ }
 {

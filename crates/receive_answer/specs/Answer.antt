@@ -40,8 +40,8 @@ taken Late = false
 unfoldable pub deliveryOf : ℕ → ℕ → Option ℕ
 deliveryOf waits time = if eqb waits 0 then none else some time
 
--- ---- the rule, for a frame of number n with time t on a link with this SkewMax: from the link's last time, the last number received
--- on the frame's network, and the time of the other network's latest delivery of n, if that awaits its copy
+-- ---- the rule, for a frame of number n with time t on a link with this SkewMax: from the link's last time, the last number
+-- received on the frame's network, and the time of the other network's latest delivery of n, if that awaits its copy
 
 -- whether that delivery is no more than SkewMax old; one timed after the frame counts as none
 unfoldable pub inSkew : ℕ → Option ℕ → ℕ → Bool

@@ -1,4 +1,5 @@
--- Histories of the receiving end (document 02, Q-1): lists of frames from empty memories, each on the memories that the one before left.
+-- Histories of the receiving end (document 02, Q-1): lists of frames from empty memories, each on the memories that the one
+-- before left.
 use Prim.Native.Nat.{ℕ, _*_, _<_}
 use mathlib.Core.Bool.{Bool}
 use mathlib.Core.List.{List, [], List·Memᴰ}

@@ -1,5 +1,5 @@
--- The rule of the receiving end over a history (document 02, Q-1): each frame's answer from the rows and from the frames before it with
--- the answers that they got. It reads no memory.
+-- The rule of the receiving end over a history (document 02, Q-1): each frame's answer from the rows and from the frames before
+-- it with the answers that they got. It reads no memory.
 use Prim.Native.Nat.{ℕ}
 use mathlib.Core.Bool.{Bool, true, false, _&&_}
 use mathlib.Core.List.{List, [], _∷_}
@@ -42,8 +42,8 @@ unfoldable pub newestNumber : Network → List Answered → Option ℕ
 newestNumber x [] = none
 newestNumber x (a ∷ past) = if sameNetwork (a .frame .network) x then some (a .frame .number) else newestNumber x past
 
--- the time of the latest delivery of number n on a network, if it hasn't met its copy. Going back, the first that matters is either
--- this delivery, or a copy of n on the other network, which met it
+-- the time of the latest delivery of number n on a network, if it hasn't met its copy. Going back, the first that matters is
+-- either this delivery, or a copy of n on the other network, which met it
 abbrev pub numbered : Network → ℕ → Arrival → Bool
 numbered x n f = sameNetwork (f .network) x && eqb (f .number) n
 

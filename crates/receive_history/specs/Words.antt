@@ -30,7 +30,8 @@ RuleOfNext =
     (rows r : List ℕ) → Empty rows r → (before : List Arrival) → Octets before → (f : Arrival) → f .number < numberCount
     → nextAnswer rows r before f ≡ ruleAnswer rows (length r) (pastOf rows r before) f
 
--- ---- in words. A frame that no row is for, one that is late, one that doesn't pass; the frames that its link received settle these
+-- ---- in words. A frame that no row is for, one that is late, one that doesn't pass; the frames that its link received settle
+-- these
 pub record OtherAnswers (rows : List ℕ) (words : ℕ) (past : List Answered) (f : Arrival) (a : Reception) : Type 0 where
   pub unknown : rowFound rows words (f .link) ≡ Nowhere → a ≡ UnknownLink
   pub late : (j : ℕ) → rowFound rows words (f .link) ≡ At j → f .time < newestTime (ofLink (f .link) past) → a ≡ Late
@@ -82,8 +83,8 @@ CopyMeetsDelivery =
     → (j : ℕ) → rowFound rows (length r) (f .link) ≡ At j
     → nextAnswer rows r before f ≡ Copy → MeetsDelivery (skewIn rows j) (ofLink (f .link) (pastOf rows r before)) f
 
--- and each delivery at most one copy: after a copy of a number there is no second one before that number is delivered on the other
--- network again
+-- and each delivery at most one copy: after a copy of a number there is no second one before that number is delivered on the
+-- other network again
 abbrev pub MetOnce : Type 0
 MetOnce =
     (rows r : List ℕ) → Empty rows r → (before : List Arrival) → Octets before → (f : Arrival) → f .number < numberCount

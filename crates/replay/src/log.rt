@@ -22,13 +22,13 @@ struct Progress {
     over: bool,
 }
 
-// Writes the lines written so far.
+// Prints the lines that the room holds up to `next`.
 fn flush(out: &[u8], next: usize) {
     let end = octets::least(next, out.len());
     io::write_all(STDOUT_FILENO, &out[0..end]);
 }
 
-// An offset with room for any line; what was written is written where there is none.
+// Returns an offset with room for any line: `next`, or 0 once the lines before it are printed, where there is too little.
 fn with_room(out: &[u8], next: usize) -> usize {
     if octets::has_room(out.len(), next, replay_text::LONGEST_LINE) {
         return next;

@@ -1,4 +1,5 @@
--- The answer to a recorded frame (document 01, "The replay program": one frame buffer, a longer frame skipped over and answered 2).
+-- The answer to a recorded frame (document 01, "The replay program": one frame buffer, a longer frame skipped over and answered
+-- 2).
 use Prim.Native.Nat.{ℕ}
 use mathlib.Core.List.{List}
 use Rattle.octets.specs.Runs.{octetsAt, put}

@@ -1,4 +1,5 @@
--- Numbers in decimal digits, as the lines of a replay have them (document 01, "The replay program" and case 14 of its bench sheet).
+-- Numbers in decimal digits, as the lines of a replay have them (document 01, "The replay program" and case 14 of its bench
+-- sheet).
 use Prim.Native.Nat.{ℕ, zero, suc, _+_, _*_, _-_, _/_, _%_, _^_}
 use mathlib.Core.List.{List, [], _∷_, _++_}
 use lib.ListN.{getD}

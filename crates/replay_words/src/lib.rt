@@ -6,7 +6,7 @@ ghost use Rattle.replay_words.specs.Words.{wordOf, appended, appendedOf}
 
 mod digits;
 
-// The first octets of a run written as a line.
+// The first `size` octets of a text, appended at an offset.
 pub fn put_text(text: &[u8], size: usize, out: &mut [u8], at: usize) -> usize
     ensures { λ r. ⌜ appendedOf r (now (out .exit)) ≡ appended (now (out .entry)) at (octetsAt size (now (text .entry)) 0) ⌝ }
 {
@@ -17,7 +17,7 @@ pub fn put_text(text: &[u8], size: usize, out: &mut [u8], at: usize) -> usize
     at
 }
 
-// A number and the character after it written from an offset on.
+// A number and the character after it, appended at an offset.
 pub fn put_word(line: &mut [u8], at: usize, x: u64, mark: u8) -> usize
     ensures { λ r. ⌜ appendedOf r (now (line .exit)) ≡ appended (now (line .entry)) at (wordOf x mark) ⌝ }
 {

@@ -1,5 +1,5 @@
--- Rows at equal distances in a run of octets: where a row stands, and the first row in use that has a number. The rows of accounts
--- and links (document 01, "The configuration image") and those of a receiving end (document 02, Q-1) are such rows.
+-- Rows at equal distances in a run of octets: where a row stands, and the first row in use that has a number. The rows of
+-- accounts and links (document 01, "The configuration image") and those of a receiving end (document 02, Q-1) are such rows.
 use Prim.Native.Nat.{ℕ, _+_, _*_, _/_, min}
 use mathlib.Core.Bool.{Bool, not}
 use mathlib.Core.List.{List}

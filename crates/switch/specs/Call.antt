@@ -1,5 +1,5 @@
--- The frame call (document 01, "Codes, in order of checking"): what it answers, and the credits and last times that it leaves. For
--- any tables, counts, frame, port and time whatsoever.
+-- The frame call (document 01, "Codes, in order of checking"): what it answers, and the credits and last times that it leaves.
+-- For any tables, counts, frame, port and time whatsoever.
 use Prim.Native.Nat.{ℕ, _/_, min}
 use mathlib.Core.Bool.{not, _&&_}
 use mathlib.Core.List.{List}

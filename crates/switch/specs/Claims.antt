@@ -1,5 +1,5 @@
--- What holds of the frame call for any tables, counts, frame, port and time whatsoever (document 01, "Codes, in order of checking");
--- proved in proofs/Claims.antt.
+-- What holds of the frame call for any tables, counts, frame, port and time whatsoever (document 01, "Codes, in order of
+-- checking"); proved in proofs/Claims.antt.
 use Prim.Native.Nat.{ℕ, _-_, _≤_, _<_}
 use mathlib.Core.Bool.{Bool, true, not, _&&_}
 use mathlib.Core.List.{List, [], _∷_}
@@ -76,7 +76,8 @@ codeTable g s f =
 abbrev pub CodesInOrder : Type 0
 CodesInOrder = (g : Config) (s : State) (f : Call) → called g s f .says .code ≡ firstFit (codeTable g s f)
 
--- ---- what a call reports and leaves, on a link l with account a: demand 1's "a refusal changes nothing", and the verdict's own data
+-- ---- what a call reports and leaves, on a link l with account a: demand 1's "a refusal changes nothing", and the verdict's
+-- own data
 pub record Effects (s : State) (f : Call) (l : Link) (a : Account) (r : After) : Type 0 where
   -- 0: forwarded to the link's ports; the account, and no other, is topped up, at the frame's time, less the cost
   pub forwarded : r .says .code ≡ 0
@@ -88,7 +89,7 @@ pub record Effects (s : State) (f : Call) (l : Link) (a : Account) (r : After) :
       → (r .says ≡ report 9 none (some (creditAt a (f .time))))
       × (r .state ≡ stateOf (set (s .credits) (l .account) (creditAt a (f .time))) (set (s .lasts) (l .account) (f .time)))
       × (creditAt a (f .time) < cost (termsOf a) (length (f .octets)))
-  -- 8: reports the credit held, of a time before the last
+  -- 8: reports the credit held; the frame's time is before the last
   pub late : r .says .code ≡ 8 → (r .says ≡ report 8 none (some (a .credit))) × (f .time < a .last)
   -- any code but 0 and 9 changes nothing
   pub kept : (r .says .code ≡ 0 → ⊥) → (r .says .code ≡ 9 → ⊥) → r .state ≡ s
@@ -103,7 +104,8 @@ RowEffects g s f (At j) r = Effects s f (linkIn (linkTable (g .links)) j) (accou
 abbrev pub CallEffects : Type 0
 CallEffects = (g : Config) (s : State) (f : Call) → RowEffects g s f (found (g .links) (g .linkCount) (linkNumber (f .octets))) (called g s f)
 
--- what is stored with 0 and with 9 is less than the capacity, whatever the tables: no frame call leaves the account that it reaches full
+-- what is stored with 0 and with 9 is less than the capacity, whatever the tables: no frame call leaves the account that it
+-- reaches full
 abbrev pub StoredBelowCapacity : Type 0
 StoredBelowCapacity =
     (l : Link) (used : ℕ) (a : Account) (n port t : ℕ)

@@ -1,5 +1,6 @@
--- The value rules of an account row and of a link row (document 01, "Accounts and links" and "The configuration image"). Reading and
--- writing an image answer 23 by `accountGood` and `linkGood`; code 10 of a frame call is about the same rows, whatever their order.
+-- The value rules of an account row and of a link row (document 01, "Accounts and links" and "The configuration image").
+-- Reading and writing an image answer 23 by `accountGood` and `linkGood`; code 10 of a frame call is about the same rows,
+-- whatever their order.
 use Prim.Native.Nat.{ℕ, _-_, _/_, _%_, _^_}
 use mathlib.Core.Bool.{Bool, true, not, _&&_}
 use lib.Dec.{ltb, leb, eqb}
