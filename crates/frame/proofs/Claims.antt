@@ -19,14 +19,14 @@ reading-answers f =
     (λ _ _ e. List·Memᴰ·head (header-code f ∙ e))
 
 pub reading-refused : ReadingRefused
-reading-refused f offset h =
+reading-refused f place h =
     let k : lengthCode (length f) ≡ 0 → ⊥ = λ z. h (header-code f ∙ z) in
     let e = header-refused f (lengthCode (length f)) refl k in
-    let p = payload-refused f (lengthCode (length f)) refl offset k in (
+    let p = payload-refused f (lengthCode (length f)) refl place k in (
       ap (λ (x : Header). x .link) (sym e),
       ap (λ (x : Header). x .sequence) (sym e),
       sym (p .0),
-      sym (p .1) ∙ ap (λ (o : ℕ). (offset .0, o)) (zero-add (offset .1)),
+      sym (p .1) ∙ ap (λ (o : ℕ). (place .0, o)) (zero-add (place .1)),
     )
 
 pub payload-length : PayloadLength

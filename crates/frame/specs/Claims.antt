@@ -16,8 +16,8 @@ ReadingAnswers = (f : List ℕ) → List·Memᴰ (headerOf f .code) (0 ∷ 1 ∷
 -- a refused frame has no link, no sequence number and no payload; its part stands where the frame starts
 abbrev pub ReadingRefused : Type 0
 ReadingRefused =
-    (f : List ℕ) (offset : ℕ × ℕ) → (headerOf f .code ≡ 0 → ⊥)
-    → (headerOf f .link ≡ 0) × (headerOf f .sequence ≡ 0) × (payloadOf f ≡ []) × (payloadPlace offset f ≡ offset)
+    (f : List ℕ) (place : ℕ × ℕ) → (headerOf f .code ≡ 0 → ⊥)
+    → (headerOf f .link ≡ 0) × (headerOf f .sequence ≡ 0) × (payloadOf f ≡ []) × (payloadPlace place f ≡ place)
 
 -- how long the payload of a frame is that is read, and so in the smallest and in the largest
 abbrev pub PayloadLength : Type 0
