@@ -1,13 +1,16 @@
--- Different answers have different numbers. Assumes nothing.
+-- The numbers of the answers. Assumes nothing.
 use Prim.Native.Nat.{ℕ}
 use mathlib.Core.List.{[], _∷_, List·Memᴰ, List·Memᴰ·head, List·Memᴰ·tail}
 use mathlib.Core.Path.{_≡_, refl, sym, ap, _∙_}
 use lib.Dec.{eqb}
 use Rattle.lists.specs.Choice.{if_then_else_}
 use Rattle.receive_answer.specs.Answer.{receptionCode}
-use Rattle.receive_answer.specs.Claims.{AnswersApart}
+use Rattle.receive_answer.specs.Claims.{AnswersApart, ReceptionNumbers}
 use Rattle.receive_answer.specs.declared.Reception.{Reception}
 use Rattle.receive_answer.specs.declared.Reception.the-variants.{Delivered, Copy, OutOfSequence, UnknownLink, Late}
+
+pub reception-numbers : ReceptionNumbers
+reception-numbers = refl
 
 -- ---- answers by their numbers
 heard : ℕ → Reception

@@ -1,7 +1,7 @@
 -- Request Q-1 whole. Assumes nothing.
 use Rattle.lists.proofs.Claims.{picked-answers}
 use Rattle.receive.proofs.Claims.{possible-answers, refused-keeps, unknown-exactly, row-is-first, row-is-nowhere, rows-beyond, changes-own-memory, time-and-number-stored, by-own-memory}
-use Rattle.receive_answer.proofs.Claims.{answers-apart}
+use Rattle.receive_answer.proofs.Claims.{answers-apart, reception-numbers}
 use Rattle.receive_sequence.proofs.Claims.{pass-table}
 use Rattle.receive_history.specs.Claims.{ReceivingEnd}
 use Rattle.receive_history.proofs.Counts.{one-copy-each}
@@ -14,6 +14,7 @@ receiving-end =
     record {
       possible-answers = possible-answers;
       answers-apart = answers-apart;
+      reception-numbers = reception-numbers;
       refused-keeps = refused-keeps;
       unknown-exactly = unknown-exactly;
       row-is-first = row-is-first;

@@ -7,7 +7,7 @@ use Rattle.lists.specs.Claims.{PickedAnswers}
 use Rattle.receive_answer.specs.declared.Arrival.{Arrival}
 use Rattle.receive_sequence.specs.Claims.{PassTable}
 use Rattle.receive.specs.Claims.{PossibleAnswers, RefusedKeeps, UnknownExactly, RowIsFirst, RowIsNowhere, SkewRowsBeyondUnread, ChangesOwnMemory, TimeAndNumberStored, ByOwnMemory}
-use Rattle.receive_answer.specs.Claims.{AnswersApart}
+use Rattle.receive_answer.specs.Claims.{AnswersApart, ReceptionNumbers}
 use Rattle.receive_history.specs.History.{frameAnswers, Empty, Octets}
 use Rattle.receive_history.specs.Rule.{ruleAnswers}
 use Rattle.receive_history.specs.Isolation.{ReceptionsApart}
@@ -21,6 +21,7 @@ RuleOfReceptions = (rows r : List ℕ) → Empty rows r → (h : List Arrival) �
 pub record ReceivingEnd : Type 0 where
   pub possible-answers : PossibleAnswers
   pub answers-apart : AnswersApart
+  pub reception-numbers : ReceptionNumbers
   pub refused-keeps : RefusedKeeps
   pub unknown-exactly : UnknownExactly
   pub row-is-first : RowIsFirst

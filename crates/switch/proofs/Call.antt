@@ -93,7 +93,7 @@ module _ (l : Link) (used : ℕ) (a : Account) (n port t : ℕ) (r : Bool) (e : 
           let q : s ≡ policed a n t = u ∙ police-judged a n t k (some-sound a c f z) c y (some-capacity a c f z) g in
           simp (v, q, ← e, not-false r h, some-sound a c f z, eq-eqb (portCode l n port) 0 (sym p ∙ m))
 
--- of an unsound link or an invalid account
+-- of an unsound link or an unsound account
 pub decided-unsound : (l : Link) (used : ℕ) (a : Account) (n port t : ℕ) → (linkSound l used (a .terms .smax) && accountSound a) ≡ false → decided l used a n port t ≡ kept 10 a
 unfolding decided
 decided-unsound l used a n port t e = simp e
