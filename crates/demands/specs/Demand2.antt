@@ -16,7 +16,8 @@ use Rattle.image_read.specs.Bench.{ImagePReads}
 use Rattle.image_read.specs.Claims.{AcceptedEnds, ReadFieldByField, PrefixRead}
 use Rattle.image_load.specs.Claims.{LoadRefuses, RowsBeyondKept, PrefixLoad}
 use Rattle.image_load.specs.Fresh.{LoadAccepts, LoadFresh, FreshHolds, FreshSound}
-use Rattle.image_write.specs.Claims.{WriteRefuses, WriteAccepts, WriteOffsets, WritesImage, ImageLength, FirstBadConstant, FirstBadAccount, FirstBadLink}
+use Rattle.image_write.specs.Claims.{WriteRefuses, WriteAccepts, WriteOffsets, WritesImage}
+use Rattle.image_write.specs.Claims.{ImageLength, FirstBadConstant, FirstBadAccount, FirstBadLink}
 use Rattle.image_round_trip.specs.RoundTrips.{AcceptedIsImage, ImageIsAccepted, WriteRead, ReadWrite}
 use Rattle.switch.specs.Claims.{CodesInOrder, CallEffects, LengthAlone, PortsBeyond, RowsBeyondUnread}
 use Rattle.demands.specs.Bench.{CallBenchTable}

@@ -80,7 +80,8 @@ accountNamed s (At j) = imageLink s j .account
 unfoldable pub ruleCode : List ℕ → List Call → Call → ℕ
 ruleCode s past f =
     if not (eqb (filterCode s f) Codes.success) then filterCode s f
-    else ruleArrived (imageTerms s (accountNamed s (linkRow s f))) (reachedIn s past (accountNamed s (linkRow s f))) (length (f .octets)) (f .time) .code
+    else ruleArrived (imageTerms s (accountNamed s (linkRow s f)))
+    (reachedIn s past (accountNamed s (linkRow s f))) (length (f .octets)) (f .time) .code
 
 -- the rule as a machine whose state is the past, and the codes of a history by it
 abbrev pub ruleOfCalls : List ℕ → Machine (List Call) Call ℕ

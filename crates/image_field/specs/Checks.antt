@@ -11,7 +11,8 @@ use Rattle.tables.specs.Rows.{accountOctets, linkOctets}
 use Rattle.tables_rules.specs.Rules.{accountGood, linkGood}
 use Rattle.fields.specs.Fields.{tagAndLength, fieldAt}
 use Rattle.fields.specs.declared.Field.{Field}
-use Rattle.image_layout.specs.Layout.{headTag, accountTag, linkTag, endTag, edition, headOctets, fieldOffset, dataOffset, maxAccounts, maxLinks, editionOffset, constantOf, constantGood}
+use Rattle.image_layout.specs.Layout.{headTag, accountTag, linkTag, endTag, edition, headOctets, fieldOffset}
+use Rattle.image_layout.specs.Layout.{dataOffset, maxAccounts, maxLinks, editionOffset, constantOf, constantGood}
 
 -- the checks of a field, in document 01's order: 20 without room for tag and length, 21 by the tag, 22 by the length, 20 without
 -- room for the data, 24 for one field too many, 23 for a value

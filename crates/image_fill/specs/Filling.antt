@@ -32,7 +32,7 @@ fullCredit a i = capacity (accountIn a i)
 unfoldable pub capacities : Rows → ℕ → List ℕ
 capacities a n = joined (λ i. fullCredit a i ∷ []) n
 
--- the same as the code takes them, 0 for values that break a limit; an accepted image has none
+-- the same as the code takes them: 0 for values that break a limit, which an accepted image does not have
 abbrev pub checkedCapacities : List ℕ → ℕ → List ℕ
 checkedCapacities s n = joined (λ i. checkedCapacity (accountIn (accountFields s) i) ∷ []) n
 

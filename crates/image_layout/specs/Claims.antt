@@ -5,7 +5,8 @@ use mathlib.Core.Bool.{true, false}
 use mathlib.Core.List.{[], _∷_, map}
 use mathlib.Core.Path.{_≡_}
 use Rattle.fields.specs.Fields.{tagAndLength}
-use Rattle.image_layout.specs.Layout.{headTag, accountTag, linkTag, endTag, edition, headSize, accountSize, linkSize, maxAccounts, maxLinks, longestImage, imagePrefix, constantGood}
+use Rattle.image_layout.specs.Layout.{headTag, accountTag, linkTag, endTag, edition, headSize, accountSize}
+use Rattle.image_layout.specs.Layout.{linkSize, maxAccounts, maxLinks, longestImage, imagePrefix, constantGood}
 
 -- the figures: tags, edition, sizes of the fields, the limits, the longest image, and how much of any image settles its answer
 abbrev pub ImageFigures : Type 0

@@ -45,10 +45,12 @@ OffsetsInside =
 abbrev pub RowsBeyondKept : Type 0
 RowsBeyondKept =
     (s : List ℕ) (r : Runs) → loading s r .answer .code ≡ 0
-    → (drop (accountOctets * loading s r .answer .settings .accounts) (loading s r .runs .accounts) ≡ drop (accountOctets * loading s r .answer .settings .accounts) (r .accounts))
+    → (drop (accountOctets * loading s r .answer .settings .accounts) (loading s r .runs .accounts)
+    ≡ drop (accountOctets * loading s r .answer .settings .accounts) (r .accounts))
     × (drop (loading s r .answer .settings .accounts) (loading s r .runs .credits) ≡ drop (loading s r .answer .settings .accounts) (r .credits))
     × (drop (loading s r .answer .settings .accounts) (loading s r .runs .lasts) ≡ drop (loading s r .answer .settings .accounts) (r .lasts))
-    × (drop (linkOctets * loading s r .answer .settings .links) (loading s r .runs .links) ≡ drop (linkOctets * loading s r .answer .settings .links) (r .links))
+    × (drop (linkOctets * loading s r .answer .settings .links) (loading s r .runs .links)
+    ≡ drop (linkOctets * loading s r .answer .settings .links) (r .links))
 
 -- an image of any length is loaded by its first octets, into any runs
 abbrev pub PrefixLoad : Type 0

@@ -35,7 +35,8 @@ fn put_field(room: &mut [u8], at: usize, tag: u8, rows: &[u8], from: usize, size
 
 // The fields of the first n rows of `size` octets, from an offset on.
 fn put_fields(room: &mut [u8], at: usize, tag: u8, rows: &[u8], size: u8, n: u16)
-    ensures { λ r. ⌜ now (room .exit) ≡ put (now (room .entry)) at (joined (λ i. fieldOf tag (rowOctets size (tableOf size (now (rows .entry))) i)) n) ⌝ }
+    ensures { λ r. ⌜ now (room .exit)
+        ≡ put (now (room .entry)) at (joined (λ i. fieldOf tag (rowOctets size (tableOf size (now (rows .entry))) i)) n) ⌝ }
 {
     let wide = size as usize;
     let step = fields::TAG_AND_LENGTH + wide;

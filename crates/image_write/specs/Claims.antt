@@ -49,7 +49,8 @@ FirstBadConstant =
 abbrev pub FirstBadAccount : Type 0
 FirstBadAccount =
     (g : Config) (d : List ℕ) → countsGood (g .accounts) (g .accountCount) (g .links) (g .linkCount) ≡ true → constantGood (g .constant) ≡ true
-    → (i : ℕ) → i < g .accountCount → ((k : ℕ) → k < i → accountGood (accountTable (g .accounts)) k ≡ true) → accountGood (accountTable (g .accounts)) i ≡ false
+    → (i : ℕ) → i < g .accountCount → ((k : ℕ) → k < i → accountGood (accountTable (g .accounts)) k ≡ true)
+    → accountGood (accountTable (g .accounts)) i ≡ false
     → writing g d .answer ≡ writtenOf 23 (fieldOffset i 0)
 
 abbrev pub FirstBadLink : Type 0

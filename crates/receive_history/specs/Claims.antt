@@ -6,12 +6,14 @@ use lib.ListN.{length}
 use Rattle.lists.specs.Claims.{PickedAnswers}
 use Rattle.receive_answer.specs.declared.Arrival.{Arrival}
 use Rattle.receive_sequence.specs.Claims.{PassTable}
-use Rattle.receive.specs.Claims.{PossibleAnswers, RefusedKeeps, UnknownExactly, RowIsFirst, RowIsNowhere, SkewRowsBeyondUnread, ChangesOwnMemory, TimeAndNumberStored, ByOwnMemory}
+use Rattle.receive.specs.Claims.{PossibleAnswers, RefusedKeeps, UnknownExactly, RowIsFirst, RowIsNowhere}
+use Rattle.receive.specs.Claims.{SkewRowsBeyondUnread, ChangesOwnMemory, TimeAndNumberStored, ByOwnMemory}
 use Rattle.receive_answer.specs.Claims.{AnswersApart, ReceptionNumbers}
 use Rattle.receive_history.specs.History.{frameAnswers, Empty, Octets}
 use Rattle.receive_history.specs.Rule.{ruleAnswers}
 use Rattle.receive_history.specs.Isolation.{ReceptionsApart}
-use Rattle.receive_history.specs.Words.{RuleOfNext, OtherReceptionsInWords, CopiesInWords, CopyMeetsDelivery, MetOnce, OneCopyEach, AloneDelivered}
+use Rattle.receive_history.specs.Words.{RuleOfNext, OtherReceptionsInWords, CopiesInWords, CopyMeetsDelivery}
+use Rattle.receive_history.specs.Words.{MetOnce, OneCopyEach, AloneDelivered}
 
 -- ---- the rule: for any rows, any empty memories and any list of frames, the answers of the whole list are the rule's
 abbrev pub RuleOfReceptions : Type 0

@@ -82,7 +82,8 @@ pub record Effects (s : State) (f : Call) (l : Link) (a : Account) (r : After) :
   -- 0: forwarded to the link's ports; the account, and no other, is topped up, at the frame's time, less the cost
   pub forwarded : r .says .code ≡ 0
       → (r .says ≡ report 0 (some (l .mask)) (some (creditAt a (f .time) - cost (termsOf a) (length (f .octets)))))
-      × (r .state ≡ stateOf (set (s .credits) (l .account) (creditAt a (f .time) - cost (termsOf a) (length (f .octets)))) (set (s .lasts) (l .account) (f .time)))
+      × (r .state ≡ stateOf (set (s .credits) (l .account) (creditAt a (f .time) - cost (termsOf a) (length (f .octets))))
+      (set (s .lasts) (l .account) (f .time)))
       × (cost (termsOf a) (length (f .octets)) ≤ creditAt a (f .time))
   -- 9: the account, and no other, is topped up, at the frame's time
   pub short : r .says .code ≡ 9

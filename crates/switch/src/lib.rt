@@ -1,7 +1,7 @@
 // The frame call: the filter by the tables that the caller lends, then the policing step on the link's account.
 ghost use mathlib.Core.Path.{_≡_};
-ghost use Prim.Native.Nat.{_+_, _*_, _≤_};
-ghost use lib.ListN.{length, getD};
+ghost use Prim.Native.Nat.{_+_, _*_, _≤_, _<_};
+ghost use lib.ListN.{length};
 ghost use Rattle.frame.specs.Frame.{lengthCode};
 ghost use Rattle.tables.specs.Rows.{accountOctets, configFor};
 ghost use Rattle.switch_verdict.specs.Verdict.{reported};
@@ -73,30 +73,21 @@ fn accounts_in_use(count: usize, accounts: usize, credits: usize, lasts: usize) 
     octets::least(count, rows)
 }
 
-// The credit and the last time of an account; 0 where the run has none.
-fn credit_at(credits: &[u32], a: usize) -> u32
-    ensures { λ r. ⌜ r ≡ getD (now (credits .entry)) a 0 ⌝ }
-{
-    if a < credits.len() { credits[a] } else { 0 }
-}
-
-fn last_at(lasts: &[u64], a: usize) -> u64
-    ensures { λ r. ⌜ r ≡ getD (now (lasts .entry)) a 0 ⌝ }
-{
-    if a < lasts.len() { lasts[a] } else { 0 }
-}
-
-// Account a, whose row is there, with its credit and last time. The row is handed on as a part of its own length.
+// Account a, which is in use, with its credit and last time. The row is handed on as a part of its own length.
 fn account_held(accounts: &[u8], credits: &[u32], lasts: &[u64], a: u16) -> Account
-    requires { ⌜ accountOctets * a + accountOctets ≤ length (now accounts) ⌝ }
+    requires { ⌜ accountOctets * a + accountOctets ≤ length (now accounts) ⌝
+        ∗ ⌜ a < length (now credits) ⌝ ∗ ⌜ a < length (now lasts) ⌝ }
     ensures { λ r. ⌜ r ≡ accountHeld (now (accounts .entry)) (stateOf (now (credits .entry)) (now (lasts .entry))) a ⌝ }
 {
     let i = a as usize;
     let row = tables::ACCOUNT_OCTETS * i;
+    let terms = tables::terms_at(&accounts[row..row + tables::ACCOUNT_OCTETS], 0);
+    let credit = credits[i];
+    let last = lasts[i];
     Account {
-        terms: tables::terms_at(&accounts[row..row + tables::ACCOUNT_OCTETS], 0),
-        credit: credit_at(credits, i),
-        last: last_at(lasts, i),
+        terms,
+        credit,
+        last,
     }
 }
 

@@ -22,11 +22,17 @@ part-terms-at-end c = search needs
 terms-at-requires : tie.Need-terms-at-requires
 terms-at-requires c κs = search needs
 
-credit-at-requires : tie.Need-credit-at-requires
-credit-at-requires c κs = search needs
+mul-credit : tie.Need-mul-credit
+mul-credit c = search needs
 
-last-at-requires : tie.Need-last-at-requires
-last-at-requires c κs = search needs
+shared-slice-read-credit : tie.Need-shared-slice-read-credit
+shared-slice-read-credit c = search needs
+
+mul-last : tie.Need-mul-last
+mul-last c = search needs
+
+shared-slice-read-last : tie.Need-shared-slice-read-last
+shared-slice-read-last c = search needs
 
 returns : tie.Need-returns
 returns c = search held-by
@@ -34,5 +40,5 @@ returns c = search held-by
 pub account-held-spec : {M : Type 1} → statement M
 account-held-spec =
     tie.close
-    (tie.spec mul-row add-terms-at sub-terms-at part-terms-at-start part-terms-at-end terms-at-requires credit-at-requires
-    last-at-requires returns)
+    (tie.spec mul-row add-terms-at sub-terms-at part-terms-at-start part-terms-at-end terms-at-requires mul-credit
+    shared-slice-read-credit mul-last shared-slice-read-last returns)

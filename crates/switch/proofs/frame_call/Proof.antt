@@ -23,7 +23,7 @@ returns : tie.Need-returns
 returns c = search call-unused
 
 account-held-requires : tie.Need-account-held-requires
-account-held-requires c κs = search used-row
+account-held-requires c κs = (search used-row, (search used-credit, search used-last))
 
 decide-requires : tie.Need-decide-requires
 decide-requires c κs = search link-sized
