@@ -1,11 +1,13 @@
 -- What holds of the policing step and the methods for any account whatsoever (document 01, "Credit, in whole units" and "Codes,
 -- in order of checking"; document 02, Q-2); proved in proofs/Claims.antt.
 use Prim.Native.Nat.{ℕ, _-_, _≤_, _<_}
-use mathlib.Core.Bool.{true}
+use mathlib.Core.Bool.{true, not}
 use mathlib.Core.Logic.{_⊎_, _↔_}
 use mathlib.Core.Option.{none, some}
 use mathlib.Core.Path.{_≡_}
-use mathlib.Core.List.{[], _∷_, List·Memᴰ}
+use mathlib.Core.List.{List, [], _∷_, List·Memᴰ}
+use lib.Dec.{ltb}
+use Rattle.lists.specs.Lines.{Line, line, firstFit}
 use Rattle.terms.specs.Terms.{termsGood, capacity, cost}
 use Rattle.account.specs.Account.{termsOf, holding, accountSound, creditAt, capacityOf, costOf, toppedUp, debited}
 use Rattle.account.specs.Step.{StepReport, stepReported, policed}
@@ -23,6 +25,20 @@ StepsApart = (o q : Outcome) → stepReported o ≡ stepReported q → o ≡ q
 -- demand 1: the codes that a step can answer
 abbrev pub StepAnswers : Type 0
 StepAnswers = (a : Account) (n t : ℕ) → List·Memᴰ (policed a n t .says .code) (0 ∷ 1 ∷ 2 ∷ 8 ∷ 9 ∷ 10 ∷ [])
+
+-- the step's table of codes, line by line ("Called alone, the policing step answers 1 or 2 by the octets, then 10, 8, 9 or 0"):
+-- the step's code is that of the first line that fits, 0 where none does
+abbrev pub stepTable : Account → ℕ → ℕ → List Line
+stepTable a n t =
+    line 1 (ltb n 64)
+    ∷ line 2 (ltb 1518 n)
+    ∷ line 10 (not (accountSound a))
+    ∷ line 8 (ltb t (a .last))
+    ∷ line 9 (ltb (creditAt a t) (cost (termsOf a) n))
+    ∷ []
+
+abbrev pub StepCodesInOrder : Type 0
+StepCodesInOrder = (a : Account) (n t : ℕ) → policed a n t .says .code ≡ firstFit (stepTable a n t)
 
 -- demand 1: a refusal other than 9 leaves the account as it was
 abbrev pub RefusedStepKeeps : Type 0

@@ -109,4 +109,4 @@ module _ (s k j : ℕ) (ok : termsGood (termsWith s k j frameMode) ≡ true) whe
 
 pub frame-modes-alike : FrameModesAlike
 unfolding byOctets
-frame-modes-alike s k j ok steps = codes-in s k j ok 3 refl (lit≤ tt) steps ∙ sym (codes-in s k j ok 1 refl (lit≤ tt) steps)
+frame-modes-alike s k j ok steps = codes-in s k j ok _ refl (lit≤ tt) steps ∙ sym (codes-in s k j ok _ refl (lit≤ tt) steps)

@@ -1,9 +1,10 @@
 -- What holds of frame reading for any octets whatsoever (document 01, "The frame"); proved in proofs/Claims.antt.
-use Prim.Native.Nat.{ℕ, _+_}
-use mathlib.Core.List.{List, [], _∷_, List·Memᴰ}
+use Prim.Native.Nat.{ℕ, _+_, _≤_}
+use mathlib.Core.List.{List, [], _∷_, _++_, List·Memᴰ}
 use mathlib.Core.Path.{_≡_}
 use lib.ListN.{length}
-use Rattle.frame.specs.Frame.{lengthCode, sequenceFromEnd, headerOf, payloadStart, payloadOf, payloadPlace}
+use Rattle.octets.specs.Spelled.{Part, part, spelled, Fit}
+use Rattle.frame.specs.Frame.{lengthCode, constantField, linkNumber, sequenceFromEnd, headerOf, payloadStart, payloadOf, payloadPlace}
 
 -- the limits at both sides
 abbrev pub LengthLimits : Type 0
@@ -26,3 +27,40 @@ PayloadLength =
     → (length (payloadOf f) + (payloadStart + sequenceFromEnd) ≡ length f)
     × (length f ≡ 64 → length (payloadOf f) ≡ 45)
     × (length f ≡ 1518 → length (payloadOf f) ≡ 1499)
+
+-- ---- a frame spelled from its values reads back: the constant field (4), the virtual link (2), eight octets more of addresses and
+-- type, the payload, the sequence number (1) and the frame check sequence (4), whatever those that are not judged are
+abbrev pub headParts : ℕ → ℕ → List Part
+headParts constant link = part 4 constant ∷ part 2 link ∷ []
+
+abbrev pub frameOf : ℕ → ℕ → List ℕ → List ℕ → ℕ → List ℕ → List ℕ
+frameOf constant link between payload sequence check = spelled (headParts constant link) ++ between ++ payload ++ (sequence ∷ check)
+
+pub record FrameRead (constant link : ℕ) (payload : List ℕ) (sequence : ℕ) (f : List ℕ) : Type 0 where
+  pub constant-field : constantField f ≡ constant
+  pub link-number : linkNumber f ≡ link
+  pub header : headerOf f ≡ record { code = 0; link = link; sequence = sequence }
+  pub payload-octets : payloadOf f ≡ payload
+
+abbrev pub FrameReadsBack : Type 0
+FrameReadsBack =
+    (constant link : ℕ) (between payload : List ℕ) (sequence : ℕ) (check : List ℕ) → Fit (headParts constant link)
+    → length between ≡ 8 → 45 ≤ length payload → length payload ≤ 1499 → length check ≡ 4
+    → FrameRead constant link payload sequence (frameOf constant link between payload sequence check)
+
+-- a frame of 64 octets that all differ: what it reads as, and where its payload stands, in figures
+abbrev pub samplePayload : List ℕ
+samplePayload =
+    15 ∷ 16 ∷ 17 ∷ 18 ∷ 19 ∷ 20 ∷ 21 ∷ 22 ∷ 23 ∷ 24 ∷ 25 ∷ 26 ∷ 27 ∷ 28 ∷ 29 ∷ 30 ∷ 31 ∷ 32 ∷ 33 ∷ 34 ∷ 35 ∷ 36 ∷ 37 ∷ 38 ∷ 39
+    ∷ 40 ∷ 41 ∷ 42 ∷ 43 ∷ 44 ∷ 45 ∷ 46 ∷ 47 ∷ 48 ∷ 49 ∷ 50 ∷ 51 ∷ 52 ∷ 53 ∷ 54 ∷ 55 ∷ 56 ∷ 57 ∷ 58 ∷ 59 ∷ []
+
+abbrev pub sampleFrame : List ℕ
+sampleFrame =
+    1 ∷ 2 ∷ 3 ∷ 4 ∷ 5 ∷ 6 ∷ 7 ∷ 8 ∷ 9 ∷ 10 ∷ 11 ∷ 12 ∷ 13 ∷ 14 ∷ samplePayload
+    ++ (60 ∷ 61 ∷ 62 ∷ 63 ∷ 64 ∷ [])
+
+abbrev pub FrameFigures : Type 0
+FrameFigures =
+    (length sampleFrame ≡ 64)
+    × FrameRead 16909060 1286 samplePayload 60 sampleFrame
+    × ((block at : ℕ) → payloadPlace (block, at) sampleFrame ≡ (block, 14 + at))

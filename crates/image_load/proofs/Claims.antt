@@ -1,15 +1,15 @@
 -- What holds of loading for any octets and any runs. Assumes nothing.
 use Prim.Native.Nat.{ℕ, _+_, _*_, _≤_}
-use mathlib.Core.Bool.{false, false≢true}
+use mathlib.Core.Bool.{false, _&&_, false≢true}
 use mathlib.Core.List.{List, [], _∷_, List·Memᴰ}
 use mathlib.Core.Path.{_≡_, refl, sym, ap, _∙_}
 use native.Mathlib.Omega.{arith}
 use lib.Dec.{leb}
 use lib.ListN.{length, drop, replicate, length-replicate}
 use lib.Seq.{drop-at}
-use borrow.Author.Tests.{leb-true, leb-false}
+use borrow.Author.Tests.{leb-true, leb-false, le-leb}
 use Rattle.octets.specs.Runs.{put}
-use Rattle.lists.proofs.Tests.{split}
+use Rattle.lists.proofs.Tests.{split, both}
 use Rattle.octets.proofs.Runs.{put-fits, put-no-room}
 use Rattle.tables.specs.Rows.{accountOctets, linkOctets}
 use Rattle.image_read.specs.Read.{imageRefused, readImage}
@@ -17,7 +17,8 @@ use Rattle.image_field.specs.Checks.{accountFields}
 use Rattle.image_read.proofs.Accepted.{accepted, refused-zeros}
 use Rattle.image_read.proofs.Claims.{listed, code-listed, not-26, offset-inside}
 use Rattle.image_fill.specs.Filling.{Runs, accountRows, linkRows, capacities, filled}
-use Rattle.image_load.specs.Claims.{LoadCodes, RefusedLoadKeeps, LoadRefuses, OffsetsInside, RowsBeyondKept}
+use Rattle.image_load.specs.Loading.{runsHold}
+use Rattle.image_load.specs.Claims.{LoadCodes, RefusedLoadKeeps, LongEnoughExactly, LoadRefuses, OffsetsInside, RowsBeyondKept}
 use Rattle.image_load.proofs.Fresh.{runsHeld, by-load, length-account-rows, length-link-rows, length-capacities}
 
 -- ---- codes
@@ -35,6 +36,18 @@ refused-load-keeps s r =
     (λ d _. let z = refused-zeros s d in (refl, z .0, z .1, z .2))
     (λ z _ d. absurd (d z))
     (λ _ _ _. (refl, refl, refl, refl))
+
+-- ---- the lengths of runs, from the definition alone
+pub long-enough-exactly : LongEnoughExactly
+unfolding runsHold
+long-enough-exactly n m r = (
+  λ e.
+      let a = both (leb (6 * n) (length (r .accounts)) && leb n (length (r .credits)) && leb n (length (r .lasts))) (leb (13 * m) (length (r .links))) e in
+      let b = both (leb (6 * n) (length (r .accounts)) && leb n (length (r .credits))) (leb n (length (r .lasts))) (a .0) in
+      let c = both (leb (6 * n) (length (r .accounts))) (leb n (length (r .credits))) (b .0) in
+      (leb-true _ _ (c .0), leb-true _ _ (c .1), leb-true _ _ (b .1), leb-true _ _ (a .1)),
+  λ h. simp (le-leb _ _ (h .0), le-leb _ _ (h .1), le-leb _ _ (h .2), le-leb _ _ (h .3)),
+)
 
 -- ---- what loading answers where it refuses
 pub load-refuses : LoadRefuses

@@ -1,7 +1,8 @@
 -- What holds of loading for any octets and any runs whatsoever (document 01, "The configuration image"); proved in
 -- proofs/Claims.antt and proofs/Prefix.antt.
 use Prim.Native.Nat.{ℕ, _*_, _≤_}
-use mathlib.Core.Bool.{false}
+use mathlib.Core.Bool.{true, false}
+use mathlib.Core.Logic.{_↔_}
 use mathlib.Core.Path.{_≡_}
 use mathlib.Core.List.{List, [], _∷_, List·Memᴰ}
 use lib.ListN.{length, take, drop}
@@ -23,6 +24,13 @@ RefusedLoadKeeps =
     × (loading s r .answer .settings .constant ≡ 0)
     × (loading s r .answer .settings .accounts ≡ 0)
     × (loading s r .answer .settings .links ≡ 0)
+
+-- runs are long enough exactly where each has a row, a credit, a last time for every account and a row for every link
+abbrev pub LongEnoughExactly : Type 0
+LongEnoughExactly =
+    (n m : ℕ) (r : Runs)
+    → (longEnough n m r ≡ true)
+    ↔ ((6 * n ≤ length (r .accounts)) × (n ≤ length (r .credits)) × (n ≤ length (r .lasts)) × (13 * m ≤ length (r .links)))
 
 -- what reading refuses, loading refuses alike; what reading accepts, it refuses as 26 where a run is too short
 abbrev pub LoadRefuses : Type 0

@@ -1,12 +1,12 @@
 -- What holds of reading for any octets. Assumes nothing.
-use Prim.Native.Nat.{ℕ, zero, suc, _+_, _-_, _≤_, _<_}
+use Prim.Native.Nat.{ℕ, zero, suc, _+_, _-_, _*_, _≤_, _<_}
 use mathlib.Core.Bool.{Bool, true, false, not, _||_, false≢true}
 use mathlib.Core.List.{List, [], _∷_, List·Memᴰ, List·Memᴰ·head, List·Memᴰ·tail}
 use mathlib.Core.Path.{_≡_, refl, sym, ap, _∙_}
 use native.Mathlib.Omega.{arith}
 use lib.Dec.{eqb}
 use lib.ListN.{length, getD}
-use borrow.Author.Tests.{leb-false, ne-eqb, eqb-true}
+use borrow.Author.Tests.{leb-false, lt-ltb, le-ltb, eq-eqb, ne-eqb, eqb-true}
 use Rattle.lists.specs.Choice.{if_then_else_}
 use Rattle.lists.proofs.Tests.{split}
 use Rattle.tables.specs.Rows.{accountOctets, linkOctets}
@@ -16,7 +16,7 @@ use Rattle.fields.specs.declared.Field.{Field}
 use Rattle.image_layout.specs.Layout.{headTag, accountTag, linkTag, headSize, accountSize, linkSize, headOctets, fieldOffset, imageLength, maxAccounts, maxLinks, longestImage}
 use Rattle.image_read.specs.Read.{goodField, goodAccounts, goodLinks, readEnd, readImage}
 use Rattle.image_field.specs.Checks.{fieldCode, headGood, headCode, inOrder, dataOctets, isFull, valuesGood, tagAt, nextCode}
-use Rattle.image_read.specs.Claims.{ReadCodes, AcceptedEnds, walked, ReadFieldByField}
+use Rattle.image_read.specs.Claims.{ReadCodes, AcceptedEnds, walked, ReadFieldByField, ReadAnswers}
 use Rattle.image_read.proofs.Accepted.{Accepted, accepted, head-passes, good-passes, link-first, counted-account, counted-link, some-accounts, some-links, end-tag}
 use Rattle.image_read.proofs.Reading.{few-accounts, few-links, few-read, by-end, by-reading}
 
@@ -246,3 +246,16 @@ read-field-by-field s k h z =
     by-reading s (λ q. walked k s 0 0 ≡ q)
     (λ d. absurd (d z))
     (λ _. walk-whole s k h)
+
+-- ---- every answer with its offset, from the definitions alone
+pub read-answers : ReadAnswers
+unfolding fieldOffset readEnd readImage
+read-answers s =
+    let n : ℕ = goodAccounts s in
+    let m : ℕ = goodLinks s n in
+    record {
+      head = λ d. simp (ne-eqb (headCode s) 0 d);
+      field = λ z d. simp (eq-eqb (headCode s) 0 z, ne-eqb (nextCode s n m) 0 d);
+      surplus = λ z e l. simp (eq-eqb (headCode s) 0 z, eq-eqb (nextCode s n m) 0 e, lt-ltb (8 + 9 * n + 16 * m + 3) (length s) l);
+      success = λ z e l. simp (eq-eqb (headCode s) 0 z, eq-eqb (nextCode s n m) 0 e, le-ltb (8 + 9 * n + 16 * m + 3) (length s) l);
+    }

@@ -1,13 +1,15 @@
 -- What holds of reading for any octets whatsoever (document 01, "The configuration image"); proved in proofs/Claims.antt and
 -- proofs/Prefix.antt.
-use Prim.Native.Nat.{ℕ, zero, suc, _+_, _≤_, _<_}
+use Prim.Native.Nat.{ℕ, zero, suc, _+_, _*_, _≤_, _<_}
 use mathlib.Core.Path.{_≡_}
 use mathlib.Core.List.{List, [], _∷_, List·Memᴰ}
 use lib.ListN.{length, take}
 use Rattle.lists.specs.Choice.{if_then_else_}
 use Rattle.image_layout.specs.Layout.{accountTag, linkTag, endTag, imageLength, maxAccounts, maxLinks, longestImage, imagePrefix}
-use Rattle.image_read.specs.Read.{goodField, imageRefused, readEnd, readImage}
-use Rattle.image_field.specs.Checks.{headCode, tagAt}
+use Rattle.octets.specs.Numbers.{numberAt}
+use Rattle.tables.specs.Rows.{settingsOf}
+use Rattle.image_read.specs.Read.{goodField, goodAccounts, goodLinks, imageRefused, readEnd, readImage}
+use Rattle.image_field.specs.Checks.{headCode, nextCode, tagAt}
 use Rattle.image_read.specs.declared.ImageAnswer.{ImageAnswer}
 
 -- demand 1: the codes that reading can answer
@@ -41,3 +43,16 @@ ReadFieldByField = (s : List ℕ) (k : ℕ) → maxAccounts + maxLinks < k → h
 -- an image of any length is answered by its first octets
 abbrev pub PrefixRead : Type 0
 PrefixRead = (s : List ℕ) → readImage (take imagePrefix s) ≡ readImage s
+
+-- ---- every answer with its offset, n good accounts and m good links after them standing after the head: the head's code at 0; the
+-- code of the field after them at its first octet; 25 at the first octet after the end; success at the image's length
+pub record Answer (s : List ℕ) (n m : ℕ) : Type 0 where
+  pub head : (headCode s ≡ 0 → ⊥) → readImage s ≡ imageRefused (headCode s) 0
+  pub field : headCode s ≡ 0 → (nextCode s n m ≡ 0 → ⊥) → readImage s ≡ imageRefused (nextCode s n m) (8 + 9 * n + 16 * m)
+  pub surplus : headCode s ≡ 0 → nextCode s n m ≡ 0 → 8 + 9 * n + 16 * m + 3 < length s
+      → readImage s ≡ imageRefused 25 (8 + 9 * n + 16 * m + 3)
+  pub success : headCode s ≡ 0 → nextCode s n m ≡ 0 → length s ≤ 8 + 9 * n + 16 * m + 3
+      → readImage s ≡ record { code = 0; offset = length s; settings = settingsOf (numberAt 4 s 4) n m }
+
+abbrev pub ReadAnswers : Type 0
+ReadAnswers = (s : List ℕ) → Answer s (goodAccounts s) (goodLinks s (goodAccounts s))

@@ -1,6 +1,6 @@
 -- Demand 2: the round trips, both ways, over the layout and through the very definitions that the contracts of `load` and `write`
 -- cite; proved in proofs/RoundTrips.antt.
-use Prim.Native.Nat.{ℕ, _*_, _^_, _≤_, _<_}
+use Prim.Native.Nat.{ℕ, _+_, _*_, _^_, _≤_, _<_}
 use mathlib.Core.Bool.{true}
 use mathlib.Core.List.{List}
 use mathlib.Core.Path.{_≡_}

@@ -1,21 +1,24 @@
 -- What holds of writing for any tables, counts and room. Assumes nothing.
-use Prim.Native.Nat.{ℕ, _≤_}
-use mathlib.Core.Bool.{true, false}
+use Prim.Native.Nat.{ℕ, _*_, _≤_}
+use mathlib.Core.Bool.{true, false, _&&_}
 use mathlib.Core.List.{List, [], _∷_, _++_, List·Memᴰ, List·Memᴰ·head, List·Memᴰ·tail}
+use mathlib.Core.Logic.{_↔_}
 use mathlib.Core.Path.{_≡_, refl, sym, ap, _∙_}
 use native.Mathlib.Nat.{zero-add}
 use native.Mathlib.Omega.{arith}
-use lib.Dec.{eqb}
+use lib.Dec.{leb, eqb}
 use lib.ListN.{length, drop}
+use borrow.Author.Tests.{leb-true, le-leb}
 use Rattle.lists.specs.Choice.{if_then_else_}
+use Rattle.lists.proofs.Tests.{both}
 use Rattle.octets.specs.Runs.{put}
 use Rattle.octets.proofs.Runs.{put-fits}
 use Rattle.tables.specs.Rows.{Config, accountTable, linkTable}
 use Rattle.tables_rules.specs.Rules.{accountGood, linkGood}
 use Rattle.lists.proofs.Leading.{leading-is}
 use Rattle.image_layout.specs.Layout.{fieldOffset, imageLength, imageOf}
-use Rattle.image_write.specs.Writing.{countsGood, badAccount, badLink, writtenOf, valueAnswer, writeAnswer, Writing, writingOf, writing}
-use Rattle.image_write.specs.Claims.{WriteRefuses, WriteAccepts, FirstBadConstant, FirstBadAccount, FirstBadLink, WriteCodes, RefusedWriteKeeps, WriteOffsets, WritesImage, ImageLength}
+use Rattle.image_write.specs.Writing.{countGood, countsGood, badAccount, badLink, writtenOf, valueAnswer, writeAnswer, Writing, writingOf, writing}
+use Rattle.image_write.specs.Claims.{CountsExactly, WriteRefuses, WriteAccepts, FirstBadConstant, FirstBadAccount, FirstBadLink, WriteCodes, RefusedWriteKeeps, WriteOffsets, WritesImage, ImageLength}
 use Rattle.image_write.proofs.Answers.{writing-answer, counts-bad, room-short, room-enough, constant-bad, account-bad, link-bad, value-bad, by-values, by-writing, writing-refused}
 use Rattle.image_octets.proofs.Written.{length-image}
 
@@ -43,6 +46,26 @@ by-write g d P p24 p23 p26 p0 =
     (λ b o. absurd (omega arith))
     (λ c a b o. p0 h)
     v)
+
+-- counts, from their definition alone
+count-exactly : (n limit w lent : ℕ) → (countGood n limit w lent ≡ true) ↔ ((1 ≤ n) × (n ≤ limit) × (w * n ≤ lent))
+unfolding countGood
+count-exactly n limit w lent = (
+  λ e.
+      let a = both (leb 1 n && leb n limit) (leb (w * n) lent) e in
+      let b = both (leb 1 n) (leb n limit) (a .0) in
+      (leb-true _ _ (b .0), leb-true _ _ (b .1), leb-true _ _ (a .1)),
+  λ h. simp (le-leb _ _ (h .0), le-leb _ _ (h .1), le-leb _ _ (h .2)),
+)
+
+pub counts-exactly : CountsExactly
+unfolding countsGood
+counts-exactly accounts n links m =
+    let a = count-exactly n 64 6 (length accounts) in
+    let b = count-exactly m 256 13 (length links) in (
+      λ e. let c = both (countGood n 64 6 (length accounts)) (countGood m 256 13 (length links)) e in (a .0 (c .0), b .0 (c .1)),
+      λ h. simp (a .1 (h .0), b .1 (h .1)),
+    )
 
 pub write-codes : WriteCodes
 write-codes g d =

@@ -1,8 +1,9 @@
 -- What holds of writing for any tables, counts and room whatsoever (document 01, "The configuration image", the writer); proved
 -- in proofs/Claims.antt.
-use Prim.Native.Nat.{ℕ, _≤_, _<_}
+use Prim.Native.Nat.{ℕ, _*_, _≤_, _<_}
 use mathlib.Core.Bool.{true, false}
 use mathlib.Core.List.{List, [], _∷_, _++_, List·Memᴰ}
+use mathlib.Core.Logic.{_↔_}
 use mathlib.Core.Path.{_≡_}
 use lib.ListN.{length, drop}
 use Rattle.tables.specs.Rows.{Config, accountTable, linkTable}
@@ -25,6 +26,13 @@ WriteOffsets =
     → (writing g d .answer .code ≡ 24 → writing g d .answer .offset ≡ 0)
     × (writing g d .answer .code ≡ 26 → writing g d .answer .offset ≡ 0)
     × (writing g d .answer .code ≡ 0 → writing g d .answer .offset ≡ length (imageOf g))
+
+-- counts are good exactly where each is from 1 to its limit and so many rows are lent
+abbrev pub CountsExactly : Type 0
+CountsExactly =
+    (accounts : List ℕ) (n : ℕ) (links : List ℕ) (m : ℕ)
+    → (countsGood accounts n links m ≡ true)
+    ↔ (((1 ≤ n) × (n ≤ 64) × (6 * n ≤ length accounts)) × ((1 ≤ m) × (m ≤ 256) × (13 * m ≤ length links)))
 
 -- when 24, 26 and success come: by the counts; and, counts and values being good, by the room
 abbrev pub WriteRefuses : Type 0

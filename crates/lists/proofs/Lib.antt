@@ -1,5 +1,6 @@
 pub mod Claims
 pub mod History
 pub mod Leading
+pub mod Lines
 pub mod Lists
 pub mod Tests

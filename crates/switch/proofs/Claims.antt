@@ -1,15 +1,17 @@
 -- What holds of the frame call for any tables, by cases of its definition. Assumes nothing.
-use Prim.Native.Nat.{ℕ, _-_, _≤_, _<_}
+use Prim.Native.Nat.{ℕ, suc, _+_, _-_, _*_, _/_, _≤_, _<_}
 use mathlib.Core.Bool.{Bool, true, false, not, _&&_, false≢true}
 use mathlib.Core.List.{List, [], _∷_}
 use mathlib.Core.Logic.{_⊎_, inl, inr}
 use mathlib.Core.Option.{none}
 use mathlib.Core.Path.{_≡_, refl, sym, ap, _∙_, subst}
-use native.Mathlib.Nat.{le-trans}
+use native.Mathlib.Nat.{le-trans, mul-comm, div-mul-le-self, le-div-iff-mul-le}
 use native.Mathlib.Omega.{arith}
 use lib.ListN.{length}
 use lib.Dec.{ltb, eqb}
 use borrow.Author.Tests.{lt-ltb, le-ltb, ltb-true, ltb-false, eqb-true, eqb-false}
+use Rattle.lists.specs.Lines.{Line, line, firstFit}
+use Rattle.lists.proofs.Lines.{takes, skips, none-left}
 use Rattle.lists.proofs.Tests.{split, both, neither}
 use Rattle.frame.specs.Frame.{lengthCode, constantField, linkNumber}
 use Rattle.frame.proofs.Frame.{by-length}
@@ -28,12 +30,12 @@ use Rattle.rows.specs.declared.Found.the-variants.{At, Nowhere}
 use Rattle.tables.specs.declared.Link.{Link}
 use Rattle.rows.proofs.Finding.{first-found}
 use Rattle.tables.proofs.Claims.{links-same}
-use Rattle.tables_rules.proofs.Rules.{account-past, sound-port, sound-sizes}
+use Rattle.tables_rules.proofs.Rules.{account-past, sound-account, sound-port, sound-sizes}
 use Rattle.switch_verdict.specs.declared.Verdict.the-variants.{Forwarded, Short, Late}
 use Rattle.switch_verdict.specs.Verdict.{Report, report}
 use Rattle.filter.specs.Filter.{frameCode, portCode}
-use Rattle.switch.specs.Call.{State, Call, After, accountsInUse, accountHeld, Decided, kept, stepOn, decided, stored, refusedWith, byLink, called}
-use Rattle.switch.specs.Claims.{CallAnswers, RefusedCallKeeps, LengthAlone, Line, line, firstFit, linkLines, rowLines, codeTable, CodesInOrder, Effects, RowEffects, CallEffects, StoredBelowCapacity, PortsBeyond, SameInUse, RowsBeyondUnread}
+use Rattle.switch.specs.Call.{State, Call, After, inUseBy, accountsInUse, accountHeld, Decided, kept, stepOn, decided, stored, refusedWith, byLink, called}
+use Rattle.switch.specs.Claims.{CallAnswers, RefusedCallKeeps, LengthAlone, linkLines, rowLines, codeTable, CodesInOrder, InUseExactly, AtTheCount, Effects, RowEffects, CallEffects, StoredBelowCapacity, PortsBeyond, SameInUse, RowsBeyondUnread}
 use Rattle.filter.proofs.Filter.{frame-length, frame-constant, frame-passes, frame-code-high, frame-zero, port-other, port-small, port-large, port-passes, port-code-high, passed-largest}
 use Rattle.switch.proofs.Call.{held-again, decided-unsound, decided-refused, decided-policed, onRow, call-refused, call-row}
 
@@ -120,18 +122,6 @@ length-alone g s f h =
     call-refused g s f (λ z. h (e ∙ z)) ∙ ap (λ (c : ℕ). refusedWith c s) (sym e)
 
 -- ---- the table of codes
-takes : (c : ℕ) (b : Bool) (ls : List Line) → b ≡ true → c ≡ firstFit (line c b ∷ ls)
-unfolding firstFit
-takes c b ls e = simp e
-
-skips : (c d : ℕ) (b : Bool) (ls : List Line) → b ≡ false → d ≡ firstFit ls → d ≡ firstFit (line c b ∷ ls)
-unfolding firstFit
-skips c d b ls e q = q ∙ simp e
-
-none-left : 0 ≡ firstFit []
-unfolding firstFit
-none-left = refl
-
 -- the lines of the port and the sizes, with others after them
 module _ (l : Link) (n port : ℕ) (rest : List Line) where
   abbrev port-lines : List Line
@@ -196,10 +186,35 @@ module _ (g : Config) (s : State) (f : Call) where
 pub codes-in-order : CodesInOrder
 codes-in-order g s f = in-order g s f
 
+-- ---- accounts in use: from their definition alone
+pub in-use-exactly : InUseExactly
+unfolding inUseBy
+in-use-exactly g s i =
+    let rows : ℕ = length (g .accounts) / 6 in
+    let q : 6 * rows ≤ length (g .accounts) = rw (mul-comm 6 rows) (div-mul-le-self (length (g .accounts)) 6) in (
+      λ h. (omega arith, omega arith, omega arith, omega arith),
+      λ h.
+          let k : i < rows = le-div-iff-mul-le {k = 6} {x = suc i} {y = length (g .accounts)} (omega arith) .1 (omega arith) in
+          omega arith,
+    )
+
+pub at-the-count : AtTheCount
+at-the-count g s f j z q h =
+    let l : Link = linkIn (linkTable (g .links)) j in
+    let a : Account = accountHeld (g .accounts) s (l .account) in
+    let n : accountsInUse g s ≤ l .account =
+    split (ltb (l .account) (accountsInUse g s))
+    (λ e. let b : l .account < g .accountCount = in-use-exactly g s (l .account) .0 (ltb-true _ _ e) .0 in absurd (omega arith))
+    (λ e. ltb-false _ _ e) in
+    call-row g s f z
+    ∙ ap (onRow g s f) q
+    ∙ ap (stored s (l .account)) (decided-unsound l (accountsInUse g s) a (length (f .octets)) (f .port) (f .time) (ap (λ (b : Bool). b && accountSound a) (sym (account-past l (accountsInUse g s) (a .terms .smax) n))))
+    ∙ ap (refusedWith 10) (held-again (g .accounts) s (l .account))
+
 -- ---- what a call reports and leaves
-module _ (s : State) (f : Call) (l : Link) (a : Account) where
+module _ (used : ℕ) (s : State) (f : Call) (l : Link) (a : Account) where
   -- a refusal with a code of its own that leaves the state
-  refused-effects : (c : ℕ) (r : After) → r .says ≡ report c none none → r .state ≡ s → (c ≡ 0 → ⊥) → (c ≡ 8 → ⊥) → (c ≡ 9 → ⊥) → Effects s f l a r
+  refused-effects : (c : ℕ) (r : After) → r .says ≡ report c none none → r .state ≡ s → (c ≡ 0 → ⊥) → (c ≡ 8 → ⊥) → (c ≡ 9 → ⊥) → Effects used s f l a r
   refused-effects c r w e p q u =
       let k : r .says .code ≡ c = ap (λ (x : Report). x .code) w in
       record {
@@ -214,18 +229,20 @@ module _ (g : Config) (s : State) (f : Call) where
   stopped-effects : (c : ℕ) → (c ≡ 0 → ⊥) → c ≤ 4 → (d : Found) → RowEffects g s f d (refusedWith c s)
   stopped-effects c z h Nowhere = (refl, refl, z, h)
   stopped-effects c z h (At j) =
-      refused-effects s f (linkIn (linkTable (g .links)) j) (accountHeld (g .accounts) s (linkIn (linkTable (g .links)) j .account)) c (refusedWith c s) refl refl z
+      refused-effects (accountsInUse g s) s f (linkIn (linkTable (g .links)) j) (accountHeld (g .accounts) s (linkIn (linkTable (g .links)) j .account)) c (refusedWith c s) refl refl z
       (λ e. omega arith) (λ e. omega arith)
 
-  link-effects : (l : Link) → lengthCode (length (f .octets)) ≡ 0 → Effects s f l (accountHeld (g .accounts) s (l .account)) (byLink g s f l)
+  link-effects : (l : Link) → lengthCode (length (f .octets)) ≡ 0 → Effects (accountsInUse g s) s f l (accountHeld (g .accounts) s (l .account)) (byLink g s f l)
   link-effects l z =
       let a : Account = accountHeld (g .accounts) s (l .account) in
       let same = held-again (g .accounts) s (l .account) in
-      by-decided l (accountsInUse g s) a (length (f .octets)) (f .port) (f .time) z (λ d. Effects s f l a (stored s (l .account) d))
-      (λ _. refused-effects s f l a 10 _ refl same (λ e. omega arith) (λ e. omega arith) (λ e. omega arith))
+      let below : ((linkSound l (accountsInUse g s) (a .terms .smax) && accountSound a) ≡ true → l .account < accountsInUse g s) =
+      λ e. sound-account l (accountsInUse g s) (a .terms .smax) (both (linkSound l (accountsInUse g s) (a .terms .smax)) (accountSound a) e .0) in
+      by-decided l (accountsInUse g s) a (length (f .octets)) (f .port) (f .time) z (λ d. Effects (accountsInUse g s) s f l a (stored s (l .account) d))
+      (λ _. refused-effects (accountsInUse g s) s f l a 10 _ refl same (λ e. omega arith) (λ e. omega arith) (λ e. omega arith))
       (λ _ h.
       let k = port-code-high l (length (f .octets)) (f .port) in
-      refused-effects s f l a (portCode l (length (f .octets)) (f .port)) _ refl same h (λ e. omega arith) (λ e. omega arith))
+      refused-effects (accountsInUse g s) s f l a (portCode l (length (f .octets)) (f .port)) _ refl same h (λ e. omega arith) (λ e. omega arith))
       (λ _ _ h. record {
         forwarded = λ e. absurd (omega arith);
         short = λ e. absurd (omega arith);
@@ -233,15 +250,15 @@ module _ (g : Config) (s : State) (f : Call) where
         kept = λ _ _. same;
         bare = λ _ n _. absurd (n refl);
       })
-      (λ _ _ h k. record {
+      (λ e _ h k. record {
         forwarded = λ e. absurd (omega arith);
-        short = λ _. (refl, refl, k);
+        short = λ _. (below e, refl, refl, k);
         late = λ e. absurd (omega arith);
         kept = λ _ n. absurd (n refl);
         bare = λ _ _ n. absurd (n refl);
       })
-      (λ _ _ h k. record {
-        forwarded = λ _. (refl, refl, k);
+      (λ e _ h k. record {
+        forwarded = λ _. (below e, refl, refl, k);
         short = λ e. absurd (omega arith);
         late = λ e. absurd (omega arith);
         kept = λ n _. absurd (n refl);

@@ -1,14 +1,14 @@
 -- What holds of the frame call for any tables, counts, frame, port and time whatsoever (document 01, "Codes, in order of
 -- checking"); proved in proofs/Claims.antt.
-use Prim.Native.Nat.{ℕ, _-_, _≤_, _<_}
+use Prim.Native.Nat.{ℕ, _+_, _-_, _*_, _≤_, _<_}
 use mathlib.Core.Bool.{Bool, true, not, _&&_}
 use mathlib.Core.List.{List, [], _∷_}
-use mathlib.Core.Logic.{_⊎_}
+use mathlib.Core.Logic.{_⊎_, _↔_}
 use mathlib.Core.Option.{none, some}
 use mathlib.Core.Path.{_≡_}
 use lib.ListN.{length, set}
 use lib.Dec.{ltb, eqb}
-use Rattle.lists.specs.Choice.{if_then_else_}
+use Rattle.lists.specs.Lines.{Line, line, firstFit}
 use Rattle.frame.specs.Limits.{smallestFrame, largestFrame}
 use Rattle.frame.specs.Frame.{lengthCode, constantField, linkNumber}
 use Rattle.terms.specs.Terms.{capacity, cost}
@@ -19,6 +19,7 @@ use Rattle.tables_rules.specs.Rules.{portCount, linkSound}
 use Rattle.rows.specs.declared.Found.{Found}
 use Rattle.rows.specs.declared.Found.the-variants.{At, Nowhere}
 use Rattle.tables.specs.declared.Link.{Link}
+use Rattle.filter.specs.Filter.{frameCode}
 use Rattle.switch_verdict.specs.Verdict.{report}
 use Rattle.switch.specs.Call.{State, stateOf, Call, After, accountsInUse, accountHeld, decided, refusedWith, called}
 
@@ -38,17 +39,6 @@ LengthAlone =
     → called g s f ≡ refusedWith (lengthCode (length (f .octets))) s
 
 -- ---- the table of codes, line by line: the call's code is that of the first line that fits, 0 where none does
-pub record Line : Type 0 where
-  pub code : ℕ
-  pub fits : Bool
-
-abbrev pub line : ℕ → Bool → Line
-line c b = record { code = c; fits = b }
-
-unfoldable pub firstFit : List Line → ℕ
-firstFit [] = 0
-firstFit (l ∷ ls) = if l .fits then l .code else firstFit ls
-
 -- the lines of a link l and its account a
 abbrev pub linkLines : Config → State → Call → Link → Account → List Line
 linkLines g s f l a =
@@ -76,18 +66,34 @@ codeTable g s f =
 abbrev pub CodesInOrder : Type 0
 CodesInOrder = (g : Config) (s : State) (f : Call) → called g s f .says .code ≡ firstFit (codeTable g s f)
 
--- ---- what a call reports and leaves, on a link l with account a: demand 1's "a refusal changes nothing", and the verdict's
--- own data
-pub record Effects (s : State) (f : Call) (l : Link) (a : Account) (r : After) : Type 0 where
-  -- 0: forwarded to the link's ports; the account, and no other, is topped up, at the frame's time, less the cost
+-- ---- accounts in use ("Accounts and links"): exactly those that the count names and that row, credit and last time are lent for
+abbrev pub InUseExactly : Type 0
+InUseExactly =
+    (g : Config) (s : State) (i : ℕ)
+    → (i < accountsInUse g s)
+    ↔ ((i < g .accountCount) × (6 * i + 6 ≤ length (g .accounts)) × (i < length (s .credits)) × (i < length (s .lasts)))
+
+-- a link whose account is not below the count gets 10, however long the runs are
+abbrev pub AtTheCount : Type 0
+AtTheCount =
+    (g : Config) (s : State) (f : Call) (j : ℕ) → frameCode (g .constant) (f .octets) ≡ 0
+    → found (g .links) (g .linkCount) (linkNumber (f .octets)) ≡ At j → g .accountCount ≤ linkIn (linkTable (g .links)) j .account
+    → called g s f ≡ refusedWith 10 s
+
+-- ---- what a call reports and leaves, on a link l with account a, so many accounts being in use: demand 1's "a refusal changes
+-- nothing", and the verdict's own data
+pub record Effects (used : ℕ) (s : State) (f : Call) (l : Link) (a : Account) (r : After) : Type 0 where
+  -- 0: forwarded to the link's ports; the account, which is in use, and no other, is topped up, at the frame's time, less the cost
   pub forwarded : r .says .code ≡ 0
-      → (r .says ≡ report 0 (some (l .mask)) (some (creditAt a (f .time) - cost (termsOf a) (length (f .octets)))))
+      → (l .account < used)
+      × (r .says ≡ report 0 (some (l .mask)) (some (creditAt a (f .time) - cost (termsOf a) (length (f .octets)))))
       × (r .state ≡ stateOf (set (s .credits) (l .account) (creditAt a (f .time) - cost (termsOf a) (length (f .octets))))
       (set (s .lasts) (l .account) (f .time)))
       × (cost (termsOf a) (length (f .octets)) ≤ creditAt a (f .time))
-  -- 9: the account, and no other, is topped up, at the frame's time
+  -- 9: the account, which is in use, and no other, is topped up, at the frame's time
   pub short : r .says .code ≡ 9
-      → (r .says ≡ report 9 none (some (creditAt a (f .time))))
+      → (l .account < used)
+      × (r .says ≡ report 9 none (some (creditAt a (f .time))))
       × (r .state ≡ stateOf (set (s .credits) (l .account) (creditAt a (f .time))) (set (s .lasts) (l .account) (f .time)))
       × (creditAt a (f .time) < cost (termsOf a) (length (f .octets)))
   -- 8: reports the credit held; the frame's time is before the last
@@ -100,7 +106,8 @@ pub record Effects (s : State) (f : Call) (l : Link) (a : Account) (r : After) :
 -- the link is that of the first row in use with the frame's number; where there is none the call answers 1, 2, 3 or 4
 abbrev pub RowEffects : Config → State → Call → Found → After → Type 0
 RowEffects g s f Nowhere r = (r .state ≡ s) × (r .says ≡ report (r .says .code) none none) × ((r .says .code ≡ 0) → ⊥) × (r .says .code ≤ 4)
-RowEffects g s f (At j) r = Effects s f (linkIn (linkTable (g .links)) j) (accountHeld (g .accounts) s (linkIn (linkTable (g .links)) j .account)) r
+RowEffects g s f (At j) r =
+    Effects (accountsInUse g s) s f (linkIn (linkTable (g .links)) j) (accountHeld (g .accounts) s (linkIn (linkTable (g .links)) j .account)) r
 
 abbrev pub CallEffects : Type 0
 CallEffects = (g : Config) (s : State) (f : Call) → RowEffects g s f (found (g .links) (g .linkCount) (linkNumber (f .octets))) (called g s f)

@@ -1,10 +1,17 @@
--- The search for a link's number. Assumes nothing.
+-- Rows spelled from their values, and the search for a link's number. Assumes nothing.
 use Prim.Native.Nat.{ℕ, _<_}
-use mathlib.Core.Path.{_≡_, ap}
+use mathlib.Core.List.{List, _++_}
+use mathlib.Core.Path.{_≡_, refl, sym, ap}
+use native.Mathlib.Omega.{arith}
+use lib.ListN.{length}
+use Rattle.octets.specs.Numbers.{numberAt}
+use Rattle.octets.specs.Spelled.{spelled}
+use Rattle.octets.proofs.Spelled.{spelled-reads, length-spelled, read-at, octet-at}
 use Rattle.rows.specs.Rows.{Rows, foundIn}
 use Rattle.rows.proofs.Finding.{first-found, none-found, found-same}
-use Rattle.tables.specs.Rows.{linkAt, linkTable, linkIn, linksInUse}
-use Rattle.tables.specs.Claims.{FindsFirst, FindsNone}
+use Rattle.tables.specs.Rows.{termsAt, linkAt, linkTable, linkIn, linksInUse}
+use Rattle.tables.specs.Claims.{accountParts, AccountReadsBack, linkParts, LinkReadsBack, RowFigures, FindsFirst, FindsNone}
+use Rattle.tables.proofs.Rows.{terms-read, link-read}
 use Rattle.tables.specs.declared.Link.{Link}
 
 -- rows with the same links are found alike
@@ -20,3 +27,36 @@ finds-first links count x i = first-found (linkTable links) (linksInUse links co
 pub finds-none : FindsNone
 unfolding linkAt
 finds-none links count x = none-found (linkTable links) (linksInUse links count) x
+
+-- ---- rows spelled from their values
+pub account-reads-back : AccountReadsBack
+unfolding termsAt
+account-reads-back p before after fit =
+    let s : List ℕ = before ++ spelled (accountParts p) ++ after in
+    let r = spelled-reads (accountParts p) before after fit in (
+      sym (terms-read s (length before) (p .smax) (p .k) (p .jitter) (p .mode)
+          (sym (r .0))
+          (sym (octet-at s (r .1 .0) (omega arith)))
+          (sym (read-at 2 s (r .1 .1 .0) (omega arith)))
+          (sym (octet-at s (r .1 .1 .1 .0) (omega arith)))),
+      length-spelled (accountParts p),
+    )
+
+pub link-reads-back : LinkReadsBack
+unfolding linkAt
+link-reads-back l before after fit =
+    let s : List ℕ = before ++ spelled (linkParts l) ++ after in
+    let r = spelled-reads (linkParts l) before after fit in (
+      sym (link-read s (length before) (l .number) (l .port) (l .mask) (l .smallest) (l .largest) (l .account)
+          (sym (r .0))
+          (sym (octet-at s (r .1 .0) (omega arith)))
+          (sym (read-at 4 s (r .1 .1 .0) (omega arith)))
+          (sym (read-at 2 s (r .1 .1 .1 .0) (omega arith)))
+          (sym (read-at 2 s (r .1 .1 .1 .1 .0) (omega arith)))
+          (sym (read-at 2 s (r .1 .1 .1 .1 .1 .0) (omega arith)))),
+      length-spelled (linkParts l),
+    )
+
+pub row-figures : RowFigures
+unfolding numberAt termsAt linkAt
+row-figures = (refl, refl)

@@ -34,16 +34,14 @@ module _ (s t : List ℕ) (a b : ℕ) where
   link-same h =
       rw (start 13 h 2 (omega arith), h 2 (omega arith), inside 13 h 4 3 (omega arith), inside 13 h 2 7 (omega arith), inside 13 h 2 9 (omega arith), inside 13 h 2 11 (omega arith))
 
--- ---- a row read value by value
-pub terms-read : (s : List ℕ) (at a k j m : ℕ) → a ≡ numberAt 2 s at → k ≡ getD s (at + 2) 0 → j ≡ numberAt 2 s (at + 3) → m ≡ getD s (at + 5) 0
+-- ---- a row read value by value, wherever each stands
+pub terms-read : (s : List ℕ) (at a k j m : ℕ) → a ≡ termsAt s at .smax → k ≡ termsAt s at .k → j ≡ termsAt s at .jitter → m ≡ termsAt s at .mode
     → _≡_ {A = Terms} (record { smax = a; k = k; jitter = j; mode = m }) (termsAt s at)
-unfolding termsAt
 terms-read s at a k j m p q u v = rw (p, q, u, v)
 
-pub link-read : (s : List ℕ) (at n p w i z a : ℕ) → n ≡ numberAt 2 s at → p ≡ getD s (at + 2) 0 → w ≡ numberAt 4 s (at + 3)
-    → i ≡ numberAt 2 s (at + 7) → z ≡ numberAt 2 s (at + 9) → a ≡ numberAt 2 s (at + 11)
+pub link-read : (s : List ℕ) (at n p w i z a : ℕ) → n ≡ linkAt s at .number → p ≡ linkAt s at .port → w ≡ linkAt s at .mask
+    → i ≡ linkAt s at .smallest → z ≡ linkAt s at .largest → a ≡ linkAt s at .account
     → _≡_ {A = Link} (record { number = n; port = p; mask = w; smallest = i; largest = z; account = a }) (linkAt s at)
-unfolding linkAt
 link-read s at n p w i z a h1 h2 h3 h4 h5 h6 = rw (h1, h2, h3, h4, h5, h6)
 
 -- ---- a row lent as a part of n octets

@@ -1,12 +1,51 @@
--- The rules of a link at both sides of their bounds (document 01, "Accounts and links"); proved in proofs/Claims.antt.
-use Prim.Native.Nat.{ℕ, _≤_}
-use mathlib.Core.Bool.{true, false}
-use mathlib.Core.List.{[], _∷_, map}
+-- The value rules exactly, and at both sides of their bounds (document 01, "Accounts and links" and "The configuration image");
+-- proved in proofs/Claims.antt.
+use Prim.Native.Nat.{ℕ, suc, _-_, _/_, _%_, _^_, _≤_, _<_}
+use mathlib.Core.Bool.{Bool, true, false, not}
+use mathlib.Core.List.{List, [], _∷_, map}
+use mathlib.Core.Logic.{_↔_}
 use mathlib.Core.Path.{_≡_}
+use lib.Dec.{eqb}
 use Rattle.rows.specs.Rows.{Rows}
+use Rattle.terms.specs.Terms.{termsGood}
 use Rattle.tables.specs.Rows.{accountIn, linkIn}
 use Rattle.tables.specs.declared.Link.{Link}
-use Rattle.tables_rules.specs.Rules.{linkSound, linkRowSound}
+use Rattle.tables_rules.specs.Rules.{portsSound, linkSound, accountGood, linkRowSound, numberRises, linkGood}
+
+-- a link keeps its rules exactly where its account exists, its port is one of 32, its mask is not 0 and lacks the port's bit, and
+-- its sizes rise from 64 to Smax
+abbrev pub LinkSoundExactly : Type 0
+LinkSoundExactly =
+    (l : Link) (n smax : ℕ)
+    → (linkSound l n smax ≡ true)
+    ↔ ((l .account < n) × (l .port < 32) × (l .mask ≡ 0 → ⊥) × (l .mask / 2 ^ l .port % 2 ≡ 0)
+    × (64 ≤ l .smallest) × (l .smallest ≤ l .largest) × (l .largest ≤ smax))
+
+-- bit p is port p's, over all 32 ports: a mask of one bit is refused on that bit's port and on no other; a mask of all other bits
+-- is accepted
+abbrev pub ports : List ℕ
+ports =
+    0 ∷ 1 ∷ 2 ∷ 3 ∷ 4 ∷ 5 ∷ 6 ∷ 7 ∷ 8 ∷ 9 ∷ 10 ∷ 11 ∷ 12 ∷ 13 ∷ 14 ∷ 15
+    ∷ 16 ∷ 17 ∷ 18 ∷ 19 ∷ 20 ∷ 21 ∷ 22 ∷ 23 ∷ 24 ∷ 25 ∷ 26 ∷ 27 ∷ 28 ∷ 29 ∷ 30 ∷ 31 ∷ []
+
+abbrev pub PortBits : Type 0
+PortBits =
+    (map (λ p. map (λ q. portsSound p (2 ^ q)) ports) ports ≡ map (λ p. map (λ q. not (eqb p q)) ports) ports)
+    × (map (λ p. portsSound p (2 ^ 32 - 1 - 2 ^ p)) ports ≡ map (λ p. true) ports)
+    × (map (λ p. portsSound p (2 ^ 32 - 1)) ports ≡ map (λ p. false) ports)
+
+-- numbers rise: a row after the first has a number above that of the row before it
+abbrev pub NumbersRise : Type 0
+NumbersRise =
+    (l : Rows) (j : ℕ)
+    → (numberRises l 0 ≡ true) × ((numberRises l (suc j) ≡ true) ↔ (linkIn l j .number < linkIn l (suc j) .number))
+
+-- a row is good where its own values are, and a link's where its number rises too
+abbrev pub RowsGoodExactly : Type 0
+RowsGoodExactly =
+    (a l : Rows) (n i : ℕ)
+    → (accountGood a i ≡ termsGood (accountIn a i))
+    × ((linkGood a l n i ≡ true) ↔ ((numberRises l i ≡ true) × (linkRowSound a l n i ≡ true)))
 
 -- the sizes of a sound link row are a frame's, and at most Smax as the row of its account has it: in modes with line octets too
 -- (document 02, Q-3)

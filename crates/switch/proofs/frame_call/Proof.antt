@@ -1,5 +1,6 @@
 -- `frame_call`: by its route; the account is in use where its credit and last time are stored. Assumes nothing.
 use Rattle.switch.proofs.Call.{used-credit, used-last, used-row, call-stopped, call-unused, link-sized, call-stored}
+use native.Mathlib.Omega.{arith}
 use borrow.Author.Needs.{needs}
 use Rattle.switch.proofs.frame_call.Statement.{statement}
 use Rattle.switch.proofs.frame_call.Tie as tie
@@ -20,7 +21,9 @@ cast-a : tie.Need-cast-a
 cast-a c = search needs
 
 returns : tie.Need-returns
-returns c = search call-unused
+returns c =
+    call-unused _ _ _ _ (c .before .before .before .before .before .find-link .ensures) _ (c .before .before .before .link .given .1) _
+    (c .before .before .before .before .before .before .accounts-in-use .ensures) (omega (arith, c .if1 .taken))
 
 account-held-requires : tie.Need-account-held-requires
 account-held-requires c κs = (search used-row, (search used-credit, search used-last))

@@ -1,5 +1,6 @@
 -- `link_in`: each value at its offset. Assumes nothing.
 use Rattle.tables.proofs.Rows.{link-read}
+use Rattle.tables.specs.Rows.{linkAt}
 use borrow.Author.Needs.{needs}
 use Rattle.tables.proofs.link_in.Statement.{statement}
 use Rattle.tables.proofs.link_in.Tie as tie
@@ -38,6 +39,7 @@ u16-in-requires-4 : tie.Need-u16-in-requires-4
 u16-in-requires-4 c κs = search needs
 
 returns : tie.Need-returns
+unfolding linkAt
 returns c = search link-read
 
 pub link-in-spec : {M : Type 1} → statement M

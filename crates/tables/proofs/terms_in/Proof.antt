@@ -1,5 +1,6 @@
 -- `terms_in`: each value at its offset. Assumes nothing.
 use Rattle.tables.proofs.Rows.{terms-read}
+use Rattle.tables.specs.Rows.{termsAt}
 use borrow.Author.Needs.{needs}
 use Rattle.tables.proofs.terms_in.Statement.{statement}
 use Rattle.tables.proofs.terms_in.Tie as tie
@@ -26,6 +27,7 @@ octet-in-requires-2 : tie.Need-octet-in-requires-2
 octet-in-requires-2 c κs = search needs
 
 returns : tie.Need-returns
+unfolding termsAt
 returns c = search terms-read
 
 pub terms-in-spec : {M : Type 1} → statement M
