@@ -6,13 +6,13 @@ use mathlib.Core.Path.{_≡_, refl, sym, ap, _∙_}
 use native.Mathlib.Omega.{arith}
 use lib.Dec.{eqb}
 use borrow.Author.Tests.{eq-eqb, ne-eqb}
-use Rattle.receive_sequence.specs.Sequence.{next, passes, numberOf}
+use Rattle.receive_sequence.specs.Sequence.{greatestNumber, afterGreatest, next, passes, numberOf}
 
-pub next-wraps : (n : ℕ) → n ≡ 255 → 1 ≡ next n
+pub next-wraps : (n : ℕ) → n ≡ greatestNumber → afterGreatest ≡ next n
 unfolding next
 next-wraps n e = simp (eq-eqb _ _ e)
 
-pub next-adds : (n : ℕ) → (n ≡ 255 → ⊥) → n + 1 ≡ next n
+pub next-adds : (n : ℕ) → (n ≡ greatestNumber → ⊥) → n + 1 ≡ next n
 unfolding next
 next-adds n d = simp (ne-eqb _ _ d)
 
@@ -24,11 +24,11 @@ pub number-some : (w : ℕ) → (w ≡ 0 → ⊥) → numberOf w ≡ some (w - 1
 unfolding numberOf
 number-some w d = simp (ne-eqb _ _ d)
 
-some-before : (p n : ℕ) → passes (some p) n ≡ (eqb n 0 || eqb n (next p) || eqb n (next (next p)))
+pub some-before : (p n : ℕ) → passes (some p) n ≡ (eqb n 0 || eqb n (next p) || eqb n (next (next p)))
 unfolding passes
 some-before p n = refl
 
-first : (n : ℕ) → passes none n ≡ true
+pub first : (n : ℕ) → passes none n ≡ true
 unfolding passes
 first n = refl
 

@@ -1,6 +1,8 @@
 -- Figures of sequence numbers (document 02, Q-1); proved in proofs/Claims.antt.
+use Prim.Native.Nat.{ℕ, _+_, _<_}
 use mathlib.Core.Bool.{true, false}
 use mathlib.Core.List.{[], _∷_, map}
+use mathlib.Core.Logic.{_⊎_, _↔_}
 use mathlib.Core.Option.{none, some}
 use mathlib.Core.Path.{_≡_}
 use Rattle.receive_sequence.specs.Sequence.{passes}
@@ -17,3 +19,10 @@ PassTable =
     ∷ (true ∷ true ∷ false ∷ false ∷ false ∷ false ∷ true ∷ [])
     ∷ (true ∷ true ∷ true ∷ false ∷ false ∷ false ∷ false ∷ [])
     ∷ []
+
+-- the same of every number, first and after every last number: what passes is 0, and one or two steps on
+pub record PassesExactly : Type 0 where
+  pub first : (n : ℕ) → passes none n ≡ true
+  pub below-254 : (p n : ℕ) → p < 254 → (passes (some p) n ≡ true) ↔ ((n ≡ 0) ⊎ (n ≡ p + 1) ⊎ (n ≡ p + 2))
+  pub after-254 : (n : ℕ) → (passes (some 254) n ≡ true) ↔ ((n ≡ 0) ⊎ (n ≡ 255) ⊎ (n ≡ 1))
+  pub after-255 : (n : ℕ) → (passes (some 255) n ≡ true) ↔ ((n ≡ 0) ⊎ (n ≡ 1) ⊎ (n ≡ 2))

@@ -12,9 +12,13 @@ numberCount = 256
 abbrev pub greatestNumber : ℕ
 greatestNumber = 255
 
+-- what follows the greatest: 0 never comes again
+abbrev pub afterGreatest : ℕ
+afterGreatest = 1
+
 -- one step on: numbers run 0, 1 to 255, then 1 again
 unfoldable pub next : ℕ → ℕ
-next n = if eqb n greatestNumber then 1 else n + 1
+next n = if eqb n greatestNumber then afterGreatest else n + 1
 
 -- whether number n passes after the last one received on its network: the first, 0, and one or two steps on
 unfoldable pub passes : Option ℕ → ℕ → Bool

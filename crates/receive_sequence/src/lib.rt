@@ -4,15 +4,18 @@ ghost use Rattle.receive_sequence.specs.Sequence.{next, passes, numberOf
 
 const GREATEST_NUMBER: u8 = 255;
 
+// What follows the greatest: 0 never comes again.
+const AFTER_GREATEST: u8 = 1;
+
 // What a word holds at most for a last number, which has 1 added.
 const GREATEST_HELD: u64 = 256;
 
-// One step on; 0 never comes again.
+// One step on.
 fn next(number: u8) -> u8
     ensures { λ r. ⌜ r ≡ next number ⌝ }
 {
     if number == GREATEST_NUMBER {
-        1
+        AFTER_GREATEST
     } else {
         number + 1
     }
