@@ -4,7 +4,7 @@ use mathlib.Core.Bool.{Bool, true, false, not}
 use mathlib.Core.Option.{Option, none, some}
 use mathlib.Core.Path.{_≡_, refl, sym, ap, _∙_}
 use lib.Dec.{leb, ltb}
-use borrow.Author.Tests.{lt-ltb, le-ltb, le-leb, lt-leb, ltb-true, ltb-false, eq-eqb, ne-eqb, not-true, not-false}
+use borrow.Author.Tests.{lt-ltb, le-ltb, le-leb, ltb-true, ltb-false, eq-eqb, ne-eqb, not-true, not-false}
 use Rattle.lists.proofs.Tests.{split}
 use Rattle.receive_sequence.specs.Sequence.{passes}
 use Rattle.receive_answer.specs.Answer.{deliveryOf, inSkew, receptionBy}
@@ -31,10 +31,6 @@ module _ (skew w d t : ℕ) where
   module _ (h : w ≡ 0 → ⊥) where
     awaited : inSkew skew (deliveryOf w d) t ≡ inSkew skew (some d) t
     awaited = ap (λ (o : Option ℕ). inSkew skew o t) (delivery-some w d h)
-
-    pub skew-after : t < d → false ≡ inSkew skew (deliveryOf w d) t
-    unfolding inSkew
-    skew-after l = sym (awaited ∙ simp (lt-leb _ _ l))
 
     pub skew-age : d ≤ t → leb (t - d) skew ≡ inSkew skew (deliveryOf w d) t
     unfolding inSkew

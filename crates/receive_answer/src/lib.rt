@@ -71,7 +71,7 @@ fn in_skew(skew: u32, waits: u64, delivered: u64, time: u64) -> bool
         return false;
     }
     if time < delivered {
-        return false;
+        return false; // counts as none
     }
     time - delivered <= skew as u64
 }
