@@ -1,13 +1,12 @@
 -- Laws of the answer from the words of a link's memory, and of what it leaves. Assumes nothing.
-use Prim.Native.Nat.{ℕ, _+_, _*_, _/_, _-_, _≤_, _<_}
+use Prim.Native.Nat.{ℕ, _+_, _*_, _≤_, _<_}
 use mathlib.Core.Bool.{Bool, true, false, not, false≢true}
 use mathlib.Core.List.{List}
 use mathlib.Core.Path.{_≡_, refl, sym, ap, ap₂, _∙_}
 use native.Mathlib.Omega.{arith}
 use lib.ListN.{length}
 use borrow.Author.Tests.{not-true, not-false}
-use Rattle.octets.specs.Numbers.{numberAt}
-use Rattle.rows.specs.Rows.{tableOf, inUse, foundIn}
+use Rattle.rows.specs.Rows.{tableOf, foundIn}
 use Rattle.rows.specs.declared.Found.{Found}
 use Rattle.rows.specs.declared.Found.the-variants.{At, Nowhere}
 use Rattle.rows.proofs.Finding.{first-found}
@@ -113,9 +112,9 @@ by-row rows r f P nowhere at = cases (rowFound rows (length r) (f .link)) refl
     cases (At j) e = rw e (at j e)
 
 -- as the code finds it
-module _ (rows r : List ℕ) (f : Arrival) (d : Found) (g : d ≡ foundIn (tableOf skewRowOctets rows) (inUse skewRowOctets (length rows) (length r / memoryWords)) (f .link)) where
+module _ (rows r : List ℕ) (f : Arrival) (d : Found) (g : d ≡ foundIn (tableOf skewRowOctets rows) (rowsInUse (length rows) (length r)) (f .link)) where
   row-is : d ≡ rowFound rows (length r) (f .link)
-  unfolding rowFound rowsInUse
+  unfolding rowFound
   row-is = g
 
   called-by : onRow rows r f d ≡ received rows r f
@@ -127,7 +126,6 @@ module _ (rows r : List ℕ) (f : Arrival) (d : Found) (g : d ≡ foundIn (table
 
   module _ (j : ℕ) (q : d ≡ At j) where
     row-low : j < rowsInUse (length rows) (length r)
-    unfolding rowsInUse
     row-low = first-found (tableOf skewRowOctets rows) _ (f .link) j (sym g ∙ q) .0
 
     pub row-lent : skewRowOctets * j + skewRowOctets ≤ length rows
@@ -136,9 +134,8 @@ module _ (rows r : List ℕ) (f : Arrival) (d : Found) (g : d ≡ foundIn (table
     pub memory-lent : memoryWords * j + memoryWords ≤ length r
     memory-lent = memory-in-run (length rows) (length r) _ refl j row-low
 
-    pub call-answered : (skew : ℕ) → skew ≡ numberAt 4 rows (skewRowOctets * j + 2) → (a : Reception) → a ≡ answerBy skew r j f
+    pub call-answered : (skew : ℕ) → skew ≡ skewIn rows j → (a : Reception) → a ≡ answerBy skew r j f
         → (s : List ℕ) → s ≡ memoryAfter r j f a → receivedOf a s ≡ received rows r f
-    unfolding skewIn
     call-answered skew p a h s l =
         let b : a ≡ answerBy (skewIn rows j) r j f = h ∙ ap (λ (x : ℕ). answerBy x r j f) p in
         ap₂ receivedOf b (l ∙ ap (memoryAfter r j f) b) ∙ ap (onRow rows r f) (sym q) ∙ called-by

@@ -3,7 +3,7 @@ use Prim.Native.Nat.{ℕ, _+_, _*_, _≤_, _<_}
 use mathlib.Core.Bool.{false}
 use mathlib.Core.List.{List}
 use mathlib.Core.Logic.{_⊎_, inl, inr}
-use mathlib.Core.Option.{some}
+use mathlib.Core.Option.{Option, some}
 use mathlib.Core.Path.{_≡_, refl, sym, ap, _∙_, subst}
 use native.Mathlib.Nat.{zero-add}
 use native.Mathlib.Omega.{arith}
@@ -20,12 +20,12 @@ use Rattle.receive_answer.specs.declared.Arrival.{Arrival}
 use Rattle.receive_answer.specs.declared.Reception.{Reception}
 use Rattle.receive_answer.specs.declared.Reception.the-variants.{Delivered, Copy, OutOfSequence, UnknownLink, Late}
 use Rattle.receive.specs.Lent.{skewRowOctets, skewIn, memoryWords, rowsInUse, rowFound, timeWord, numberWord, awaitingWord, deliveredWord, latestTime, lastNumber, awaiting, noted}
-use Rattle.receive_answer.specs.Answer.{other, receptionCode, taken}
+use Rattle.receive_answer.specs.Answer.{other, receptionCode, taken, receptionBy}
 use Rattle.receive.specs.Receive.{memoryAfter, answerBy, received}
-use Rattle.receive.specs.Claims.{PossibleAnswers, RefusedKeeps, UnknownExactly, RowIsFirst, RowIsNowhere, SkewRowsBeyondUnread, OnlyMemory, ChangesOwnMemory, TimeAndNumberStored, SameMemory, ByOwnMemory}
+use Rattle.receive.specs.Claims.{PossibleAnswers, RefusedKeeps, UnknownExactly, RowIsFirst, RowIsNowhere, SkewRowsBeyondUnread, AnswersByMemory, LaterDeliveryIsNone, OnlyMemory, ChangesOwnMemory, TimeAndNumberStored, SameMemory, ByOwnMemory}
 use Rattle.receive.proofs.Answering.{refused-leaves, call-at, call-nowhere, by-row}
 use Rattle.receive_answer.proofs.Answer.{by-reception}
-use Rattle.receive_answer.proofs.Claims.{possible}
+use Rattle.receive_answer.proofs.Claims.{possible, answers-exactly, later-counts-as-none}
 use Rattle.receive.proofs.Stored.{stored-left, noted-time, noted-number, met-time, met-number, delivered-time, delivered-number}
 use Rattle.receive.proofs.Words.{number-inside, awaiting-inside, delivered-inside, memory-in-run, length-store, word-same, word-other, outside-before, outside-after}
 
@@ -89,6 +89,20 @@ rows-beyond rows words rows′ words′ link n same =
     found-same (tableOf skewRowOctets rows) (tableOf skewRowOctets rows′) (rowsInUse (length rows) words) link
     (λ j h. number-in rows j ∙ same j h ∙ sym (number-in rows′ j))
     ∙ ap (λ (m : ℕ). foundIn (tableOf skewRowOctets rows′) m link) n
+
+-- ---- the answer, by what its memory says
+pub answers-by-memory : AnswersByMemory
+unfolding answerBy
+answers-by-memory rows r f j e =
+    rw (call-at rows r f j e)
+    (answers-exactly (skewIn rows j) (latestTime r j) (lastNumber r j (f .network)) (awaiting r j (other (f .network)) (f .number)) (f .number) (f .time))
+
+pub later-delivery-is-none : LaterDeliveryIsNone
+unfolding answerBy
+later-delivery-is-none rows r f j e h p d q l =
+    ap (λ z. z .says) (call-at rows r f j e)
+    ∙ ap (λ (o : Option ℕ). receptionBy (skewIn rows j) (latestTime r j) (lastNumber r j (f .network)) o (f .number) (f .time)) q
+    ∙ later-counts-as-none (skewIn rows j) (latestTime r j) (lastNumber r j (f .network)) d (f .number) (f .time) h p l
 
 -- its memory is lent whole
 pub memory-whole : (rows : List ℕ) (words link j : ℕ) → rowFound rows words link ≡ At j → memoryWords * j + memoryWords ≤ words

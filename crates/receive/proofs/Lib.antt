@@ -1,4 +1,5 @@
 pub mod Claims
 pub mod Answering
+pub mod Figures
 pub mod Stored
 pub mod Words

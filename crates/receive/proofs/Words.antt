@@ -1,8 +1,7 @@
 -- Laws of memories: words read and stored, rows in use. Assumes nothing.
-use Prim.Native.Nat.{ℕ, _+_, _*_, _/_, _≤_, _<_}
+use Prim.Native.Nat.{ℕ, _+_, _*_, _≤_, _<_}
 use mathlib.Core.List.{List}
 use mathlib.Core.Path.{_≡_, refl}
-use native.Mathlib.Nat.{min-le-left, div-mul-le-self}
 use native.Mathlib.Omega.{arith}
 use lib.ListN.{length, getD, set, length-set}
 use lib.Seq.{getD-set-same, getD-set-other}
@@ -43,14 +42,11 @@ length-store r j k v = length-set r (memoryWords * j + k) v
 module _ (octets words n : ℕ) (e : n ≡ rowsInUse octets words) where
   pub row-in-run : (j : ℕ) → j < n → skewRowOctets * j + skewRowOctets ≤ octets
   unfolding rowsInUse
-  row-in-run j h = row-inside skewRowOctets octets (words / memoryWords) n e j h
+  row-in-run j h = row-inside skewRowOctets octets _ n e j h
 
   pub memory-in-run : (j : ℕ) → j < n → memoryWords * j + memoryWords ≤ words
   unfolding rowsInUse
-  memory-in-run j h =
-      let m : n ≤ words / memoryWords = rw e (min-le-left (words / memoryWords) (octets / skewRowOctets)) in
-      let d = div-mul-le-self words memoryWords in
-      omega arith
+  memory-in-run j h = omega arith
 
 -- ---- a word read where another was stored. In the same memory
 pub word-same : (r : List ℕ) (j k v : ℕ) → memoryWords * j + memoryWords ≤ length r → k < memoryWords → word (store r j k v) j k ≡ v

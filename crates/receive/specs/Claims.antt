@@ -1,6 +1,7 @@
 -- What holds of one call of the receiving end for any rows and memories whatsoever (document 02, Q-1); proved in
 -- proofs/Claims.antt.
 use Prim.Native.Nat.{ℕ, _+_, _*_, _≤_, _<_}
+use mathlib.Core.Bool.{true}
 use mathlib.Core.List.{List, [], _∷_, List·Memᴰ}
 use mathlib.Core.Logic.{_⊎_, _↔_}
 use mathlib.Core.Option.{some}
@@ -9,11 +10,12 @@ use lib.ListN.{length, getD}
 use Rattle.octets.specs.Numbers.{numberAt}
 use Rattle.rows.specs.declared.Found.the-variants.{At, Nowhere}
 use Rattle.receive_answer.specs.declared.Arrival.{Arrival}
-use Rattle.receive_answer.specs.declared.Reception.the-variants.{UnknownLink, Late}
-use Rattle.receive_sequence.specs.Sequence.{numberCount}
-use Rattle.receive.specs.Lent.{skewRowOctets, skewIn, memoryWords, rowsInUse, rowFound, word, latestTime, lastNumber}
+use Rattle.receive_answer.specs.declared.Reception.the-variants.{Delivered, UnknownLink, Late}
+use Rattle.receive_sequence.specs.Sequence.{numberCount, passes}
+use Rattle.receive_answer.specs.Answer.{receptionCode, other}
+use Rattle.receive_answer.specs.Claims.{AnsweredBy}
+use Rattle.receive.specs.Lent.{skewRowOctets, skewIn, memoryWords, rowsInUse, rowFound, word, latestTime, lastNumber, awaiting}
 use Rattle.receive.specs.Receive.{received}
-use Rattle.receive_answer.specs.Answer.{receptionCode}
 
 -- demand 1: delivered, copy, out of sequence, 4 and 8, and no other
 abbrev pub PossibleAnswers : Type 0
@@ -49,7 +51,22 @@ SkewRowsBeyondUnread =
     → ((j : ℕ) → j < rowsInUse (length rows) words → numberAt 2 rows (skewRowOctets * j) ≡ numberAt 2 rows′ (skewRowOctets * j))
     → rowFound rows words link ≡ rowFound rows′ words′ link
 
--- ---- of a call whose link has row j: only memory j may change
+-- ---- of a call whose link has row j: its answer exactly, by what memory j says, whatever that is
+abbrev pub AnswersByMemory : Type 0
+AnswersByMemory =
+    (rows r : List ℕ) (f : Arrival) (j : ℕ) → rowFound rows (length r) (f .link) ≡ At j
+    → AnsweredBy (skewIn rows j) (latestTime r j) (lastNumber r j (f .network)) (awaiting r j (other (f .network)) (f .number))
+    (f .number) (f .time) (received rows r f .says)
+
+-- a delivery timed after the frame counts as none
+abbrev pub LaterDeliveryIsNone : Type 0
+LaterDeliveryIsNone =
+    (rows r : List ℕ) (f : Arrival) (j : ℕ) → rowFound rows (length r) (f .link) ≡ At j
+    → latestTime r j ≤ f .time → passes (lastNumber r j (f .network)) (f .number) ≡ true
+    → (d : ℕ) → awaiting r j (other (f .network)) (f .number) ≡ some d → f .time < d
+    → received rows r f .says ≡ Delivered
+
+-- only memory j may change
 pub record OnlyMemory (j : ℕ) (r s : List ℕ) : Type 0 where
   pub long : length s ≡ length r
   pub before : (i : ℕ) → i < memoryWords * j → getD s i 0 ≡ getD r i 0

@@ -1,0 +1,49 @@
+-- The form of rows and memories in figures (document 02, Q-1: "Links with their SkewMax are lent as rows, the first with a number
+-- counts; records start empty"); proved in proofs/Figures.antt.
+use Prim.Native.Nat.{ℕ, _+_, _*_, _≤_, _<_}
+use mathlib.Core.List.{List, [], _∷_, _++_, map}
+use mathlib.Core.Logic.{_↔_}
+use mathlib.Core.Option.{none, some}
+use mathlib.Core.Path.{_≡_}
+use lib.ListN.{length}
+use Rattle.octets.specs.Numbers.{numberAt, octetsOf}
+use Rattle.rows.specs.declared.Found.the-variants.{At, Nowhere}
+use Rattle.receive_sequence.specs.Sequence.{numberOf}
+use Rattle.receive_answer.specs.Answer.{deliveryOf}
+use Rattle.receive_answer.specs.declared.Network.the-variants.{A, B}
+use Rattle.receive.specs.Lent.{skewRowOctets, skewIn, memoryWords, rowsInUse, rowFound}
+use Rattle.receive.specs.Lent.{timeWord, numberWord, awaitingWord, deliveredWord}
+
+-- ---- rows: link 258 with SkewMax 50,595,078, link 1,800 with 151,653,132, and link 258 again
+abbrev pub threeRows : List ℕ
+threeRows = 1 ∷ 2 ∷ 3 ∷ 4 ∷ 5 ∷ 6 ∷ 7 ∷ 8 ∷ 9 ∷ 10 ∷ 11 ∷ 12 ∷ 1 ∷ 2 ∷ 13 ∷ 14 ∷ 15 ∷ 16 ∷ []
+
+-- their SkewMax; the rows that are found with three memories, the first of two with one number; 515 and 3 stand elsewhere in a row
+abbrev pub SkewRowFigures : Type 0
+SkewRowFigures =
+    (map (skewIn threeRows) (0 ∷ 1 ∷ 2 ∷ []) ≡ 50595078 ∷ 151653132 ∷ 219025168 ∷ [])
+    × (map (rowFound threeRows 3081) (258 ∷ 1800 ∷ 515 ∷ 3 ∷ []) ≡ At 0 ∷ At 1 ∷ Nowhere ∷ Nowhere ∷ [])
+
+-- any number in 2 octets and any SkewMax in 4 after it, as row j, read back
+abbrev pub SkewRowReads : Type 0
+SkewRowReads =
+    (number skew : ℕ) → number < 65536 → skew < 4294967296
+    → (j : ℕ) (before after : List ℕ) → length before ≡ 6 * j
+    → (numberAt 2 (before ++ octetsOf 2 number ++ octetsOf 4 skew ++ after) (6 * j) ≡ number)
+    × (skewIn (before ++ octetsOf 2 number ++ octetsOf 4 skew ++ after) j ≡ skew)
+
+-- ---- rows in use: row j exactly where its 6 octets and the 1,027 words of its memory are lent
+pub record RowsInUseExactly : Type 0 where
+  pub row : (octets words j : ℕ) → (j < rowsInUse octets words) ↔ ((6 * j + 6 ≤ octets) × (1027 * j + 1027 ≤ words))
+  pub whole : (n : ℕ) → rowsInUse (6 * n) (1027 * n) ≡ n
+  pub word-short : (n : ℕ) → rowsInUse (6 * n + 6) (1027 * n + 1026) ≡ n
+  pub octet-short : (n : ℕ) → rowsInUse (6 * n + 5) (1027 * n + 1027) ≡ n
+
+-- ---- a memory: its words, by network and for numbers 0 and 255; what a word of a last number and those of a delivery say
+abbrev pub MemoryFigures : Type 0
+MemoryFigures =
+    (skewRowOctets ≡ 6) × (memoryWords ≡ 1027) × (timeWord ≡ 0) × (map numberWord (A ∷ B ∷ []) ≡ 1 ∷ 2 ∷ [])
+    × (map (awaitingWord A) (0 ∷ 1 ∷ 255 ∷ []) ≡ 3 ∷ 5 ∷ 513 ∷ []) × (map (deliveredWord A) (0 ∷ 1 ∷ 255 ∷ []) ≡ 4 ∷ 6 ∷ 514 ∷ [])
+    × (map (awaitingWord B) (0 ∷ 1 ∷ 255 ∷ []) ≡ 515 ∷ 517 ∷ 1025 ∷ []) × (map (deliveredWord B) (0 ∷ 1 ∷ 255 ∷ []) ≡ 516 ∷ 518 ∷ 1026 ∷ [])
+    × (map numberOf (0 ∷ 1 ∷ 256 ∷ []) ≡ none ∷ some 0 ∷ some 255 ∷ [])
+    × (deliveryOf 0 9 ≡ none) × (deliveryOf 1 9 ≡ some 9)
