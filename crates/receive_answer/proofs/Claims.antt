@@ -61,7 +61,7 @@ awaits-copy skew (some d) t e =
     let b = both (leb d t) (leb (t - d) skew) e in
     record { time = d; awaits = refl; not-after = leb-true _ _ (b .0); in-skew = leb-true _ _ (b .1) }
 
-in-skew-at : (skew d t : ℕ) → d ≤ t → t - d ≤ skew → inSkew skew (some d) t ≡ true
+pub in-skew-at : (skew d t : ℕ) → d ≤ t → t - d ≤ skew → inSkew skew (some d) t ≡ true
 unfolding inSkew
 in-skew-at skew d t h l = ap₂ _&&_ (le-leb _ _ h) (le-leb _ _ l)
 

@@ -19,12 +19,13 @@ use Rattle.receive_answer.specs.declared.Reception.{Reception}
 use Rattle.receive_answer.specs.declared.Reception.the-variants.{Delivered, Copy, OutOfSequence, UnknownLink, Late}
 use Rattle.receive.specs.Lent.{skewIn, rowFound}
 use Rattle.receive_answer.specs.Answer.{other, receptionCode}
+use Rattle.receive_answer.proofs.Claims.{awaits-copy}
 use Rattle.receive_history.specs.History.{Answered, answeredOf, onLink}
 use Rattle.receive_history.specs.Rule.{receivedOn, ofLink, numbered, unmet, ruleAnswer, ruleOfFrames}
 use Rattle.receive_history.specs.Words.{isDelivered, isCopy, deliveries, copies, OneCopyEach}
 use Rattle.receive_history.proofs.Memory.{other-other, numbered-true, unmet-other, unmet-met, unmet-still, unmet-out, unmet-none}
 use Rattle.receive_history.proofs.Rule.{joins, refused-stays, other-stays, rule-of-receptions}
-use Rattle.receive_history.proofs.Meeting.{skew-within, copy-skew, rule-at, rule-nowhere}
+use Rattle.receive_history.proofs.Meeting.{copy-skew, rule-at, rule-nowhere}
 
 -- ---- counts
 one : Bool → ℕ
@@ -71,8 +72,8 @@ copy-waits rows words p f e = cases (rowFound rows words (f .link)) refl
     cases : (d : Found) → rowFound rows words (f .link) ≡ d → waits (unmet (other (f .network)) (f .number) (ofLink (f .link) p)) ≡ 1
     cases Nowhere q = let z : _≡_ {A = ℕ} 4 30 = ap receptionCode (sym (rule-nowhere rows words p f q) ∙ e) in absurd (omega arith)
     cases (At j) q =
-        let w = skew-within (skewIn rows j) (unmet (other (f .network)) (f .number) (ofLink (f .link) p)) (f .time) (copy-skew (skewIn rows j) (ofLink (f .link) p) f (sym (rule-at rows words p f j q) ∙ e)) in
-        ap waits (w .is) ∙ waits-some (w .time)
+        let w = awaits-copy (skewIn rows j) (unmet (other (f .network)) (f .number) (ofLink (f .link) p)) (f .time) (copy-skew (skewIn rows j) (ofLink (f .link) p) f (sym (rule-at rows words p f j q) ∙ e)) in
+        ap waits (w .awaits) ∙ waits-some (w .time)
 
 -- ---- one frame more
 module _ (link : ℕ) (x : Network) (n : ℕ) (f : Arrival) (p : List Answered) where

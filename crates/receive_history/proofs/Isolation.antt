@@ -1,15 +1,15 @@
--- Isolation: a link's answers and its memory go by its SkewMax and its own frames. Assumes nothing.
+-- Isolation: a link's answers and its memory go by its SkewMax, the memory that it had and its own frames. Assumes nothing.
 use Prim.Native.Nat.{ℕ, _+_, _*_, _≤_, _<_}
 use mathlib.Core.Bool.{false, false≢true}
 use mathlib.Core.List.{List}
 use mathlib.Core.Path.{_≡_, refl, sym, ap, ap₂, _∙_}
 use native.Mathlib.Omega.{arith}
-use lib.ListN.{length, take, drop}
+use lib.ListN.{length, getD, take, drop}
 use borrow.Author.Tests.{eqb-true, eqb-false}
 use Rattle.lists.specs.History.{Machine}
 use Rattle.lists.specs.Lists.{only}
 use Rattle.lists.proofs.History.{SimulatesPicked, alike}
-use Rattle.octets.proofs.Parts.{part-same, part-take}
+use Rattle.octets.proofs.Parts.{getD-within, part-same, part-take}
 use Rattle.rows.specs.declared.Found.{Found}
 use Rattle.rows.specs.declared.Found.the-variants.{At, Nowhere}
 use Rattle.receive_sequence.specs.Sequence.{numberCount}
@@ -22,7 +22,7 @@ use Rattle.receive.proofs.Answering.{call-nowhere, by-row}
 use Rattle.receive.proofs.Stored.{left-beside}
 use Rattle.receive.proofs.Claims.{row-is-first, memory-whole, changes-own-memory, by-own-memory}
 use Rattle.receive_history.specs.History.{Answered, answeredOf, receiving, finalMemory, Empty, Octets, onLink, skewBy, memoryBy, memoryOf}
-use Rattle.receive_history.specs.Isolation.{SameOnLink, ReceptionsApart}
+use Rattle.receive_history.specs.Isolation.{SameOnLink, ReceptionsApartFromAny, ReceptionsApart}
 use Rattle.receive_history.proofs.Memory.{some?, amount}
 use Rattle.receive_history.proofs.Rule.{rows-apart}
 
@@ -85,13 +85,21 @@ same-words r s j i h l same =
     ∙ part-same memoryWords r s (memoryWords * j) (memoryWords * i) same
     ∙ part-take memoryWords s (memoryWords * i) l
 
+words-same : (r s : List ℕ) (j i : ℕ) → take memoryWords (drop (memoryWords * j) r) ≡ take memoryWords (drop (memoryWords * i) s)
+    → SameMemory r j s i
+unfolding word
+words-same r s j i e k l =
+    sym (getD-within memoryWords (memoryWords * j) r k l)
+    ∙ ap (λ (w : List ℕ). getD w k 0) e
+    ∙ getD-within memoryWords (memoryWords * i) s k l
+
 memory-at : (rows w : List ℕ) (words link : ℕ) (d : Found) → length w ≡ words → rowFound rows words link ≡ d
     → memoryOf rows w link ≡ memoryBy w d
 memory-at rows w words link d n e = ap (memoryBy w) (ap (λ (k : ℕ). rowFound rows k link) n ∙ e)
 
 -- ---- two histories
-module _ (link : ℕ) (rows r : List ℕ) (z : Empty rows r) (h : List Arrival) (o : Octets h)
-    (rows′ r′ : List ℕ) (z′ : Empty rows′ r′) (h′ : List Arrival) (o′ : Octets h′) (g : only (onLink link) h ≡ only (onLink link) h′) where
+module _ (link : ℕ) (rows r : List ℕ) (h : List Arrival) (o : Octets h)
+    (rows′ r′ : List ℕ) (h′ : List Arrival) (o′ : Octets h′) (g : only (onLink link) h ≡ only (onLink link) h′) where
   both-unknown : rowFound rows (length r) link ≡ Nowhere → rowFound rows′ (length r′) link ≡ Nowhere → SameOnLink link rows r h rows′ r′ h′
   both-unknown e e′ =
       let a = alike h h′ (unknown link rows (length r) e h o) (unknown link rows′ (length r′) e′ h′ o′) g tt r refl r′ refl in
@@ -102,16 +110,15 @@ module _ (link : ℕ) (rows r : List ℕ) (z : Empty rows r) (h : List Arrival) 
             ∙ sym (memory-at rows′ (finalMemory rows′ r′ h′) (length r′) link Nowhere (a .2) e′);
       }
 
-  both-known : (j i : ℕ) → rowFound rows (length r) link ≡ At j → rowFound rows′ (length r′) link ≡ At i → skewIn rows j ≡ skewIn rows′ i → SameOnLink link rows r h rows′ r′ h′
-  both-known j i e e′ skew =
-      let in-use = row-is-first rows (length r) link j e .0 in
-      let in-use′ = row-is-first rows′ (length r′) link i e′ .0 in
+  both-known : (j i : ℕ) → rowFound rows (length r) link ≡ At j → rowFound rows′ (length r′) link ≡ At i → skewIn rows j ≡ skewIn rows′ i
+      → memoryBy r (At j) ≡ memoryBy r′ (At i) → SameOnLink link rows r h rows′ r′ h′
+  both-known j i e e′ skew m =
       let a = alike h h′
       (known link rows (length r) j e rows′ (length r′) i e′ skew h o)
       (known link rows′ (length r′) i e′ rows′ (length r′) i e′ refl h′ o′) g
-      r′ r (refl, refl, λ k l. z j in-use k l ∙ sym (z′ i in-use′ k l)) r′ (refl, refl, λ k l. refl) in
+      r′ r (refl, refl, words-same r r′ j i m) r′ (refl, refl, λ k l. refl) in
       let n : length (finalMemory rows r h) ≡ length r = a .1 .0 in
-      let m : length (finalMemory rows′ r′ h′) ≡ length r′ = a .2 .0 in
+      let n′ : length (finalMemory rows′ r′ h′) ≡ length r′ = a .2 .0 in
       let w = memory-whole rows (length r) link j e in
       let v = memory-whole rows′ (length r′) link i e′ in
       record {
@@ -120,15 +127,34 @@ module _ (link : ℕ) (rows r : List ℕ) (z : Empty rows r) (h : List Arrival) 
             memory-at rows (finalMemory rows r h) (length r) link (At j) n e
             ∙ same-words (finalMemory rows r h) (finalMemory rows′ r′ h′) j i (omega arith) (omega arith)
             (λ k l. a .1 .2 k l ∙ sym (a .2 .2 k l))
-            ∙ sym (memory-at rows′ (finalMemory rows′ r′ h′) (length r′) link (At i) m e′);
+            ∙ sym (memory-at rows′ (finalMemory rows′ r′ h′) (length r′) link (At i) n′ e′);
       }
 
-  same-on-link : (d d′ : Found) → rowFound rows (length r) link ≡ d → rowFound rows′ (length r′) link ≡ d′ → skewBy rows d ≡ skewBy rows′ d′ → SameOnLink link rows r h rows′ r′ h′
-  same-on-link Nowhere Nowhere e e′ s = both-unknown e e′
-  same-on-link (At j) (At i) e e′ s = both-known j i e e′ (ap amount s)
-  same-on-link Nowhere (At i) e e′ s = absurd (false≢true (ap some? s))
-  same-on-link (At j) Nowhere e e′ s = absurd (false≢true (sym (ap some? s)))
+  same-on-link : (d d′ : Found) → rowFound rows (length r) link ≡ d → rowFound rows′ (length r′) link ≡ d′ → skewBy rows d ≡ skewBy rows′ d′
+      → memoryBy r d ≡ memoryBy r′ d′ → SameOnLink link rows r h rows′ r′ h′
+  same-on-link Nowhere Nowhere e e′ s m = both-unknown e e′
+  same-on-link (At j) (At i) e e′ s m = both-known j i e e′ (ap amount s) m
+  same-on-link Nowhere (At i) e e′ s m = absurd (false≢true (ap some? s))
+  same-on-link (At j) Nowhere e e′ s m = absurd (false≢true (sym (ap some? s)))
+
+pub receptions-apart-from-any : ReceptionsApartFromAny
+receptions-apart-from-any link rows r h o rows′ r′ h′ o′ s m g =
+    same-on-link link rows r h o rows′ r′ h′ o′ g (rowFound rows (length r) link) (rowFound rows′ (length r′) link) refl refl s m
+
+-- ---- empty memories of a link are the same
+module _ (link : ℕ) (rows r : List ℕ) (z : Empty rows r) (rows′ r′ : List ℕ) (z′ : Empty rows′ r′) where
+  both-empty : (d d′ : Found) → rowFound rows (length r) link ≡ d → rowFound rows′ (length r′) link ≡ d′ → skewBy rows d ≡ skewBy rows′ d′
+      → memoryBy r d ≡ memoryBy r′ d′
+  both-empty Nowhere Nowhere e e′ s = refl
+  both-empty (At j) (At i) e e′ s =
+      let u = row-is-first rows (length r) link j e .0 in
+      let u′ = row-is-first rows′ (length r′) link i e′ .0 in
+      same-words r r′ j i (memory-whole rows (length r) link j e) (memory-whole rows′ (length r′) link i e′)
+      (λ k l. z j u k l ∙ sym (z′ i u′ k l))
+  both-empty Nowhere (At i) e e′ s = absurd (false≢true (ap some? s))
+  both-empty (At j) Nowhere e e′ s = absurd (false≢true (sym (ap some? s)))
 
 pub receptions-apart : ReceptionsApart
 receptions-apart link rows r z h o rows′ r′ z′ h′ o′ s g =
-    same-on-link link rows r z h o rows′ r′ z′ h′ o′ g (rowFound rows (length r) link) (rowFound rows′ (length r′) link) refl refl s
+    receptions-apart-from-any link rows r h o rows′ r′ h′ o′ s
+    (both-empty link rows r z rows′ r′ z′ (rowFound rows (length r) link) (rowFound rows′ (length r′) link) refl refl s) g

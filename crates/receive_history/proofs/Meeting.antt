@@ -1,15 +1,13 @@
 -- Copies and their deliveries, in words. Assumes nothing.
 use Prim.Native.Nat.{ℕ, _+_, _-_, _≤_, _<_}
-use mathlib.Core.Bool.{true, false, not, _&&_, false≢true}
+use mathlib.Core.Bool.{true, false, not, false≢true}
 use mathlib.Core.List.{List, [], _∷_, _++_, head-eq-of-cons-eq, tail-eq-of-cons-eq, List·Memᴰ, List·Memᴰ·head, List·Memᴰ·tail, List·Memᴰ·not-nil, Memᴰ·append-right}
 use mathlib.Core.Logic.{_⊎_, inl, inr, ⊎-elim}
 use mathlib.Core.Option.{Option, none, some}
-use mathlib.Core.Path.{_≡_, refl, sym, ap, ap₂, _∙_, subst}
+use mathlib.Core.Path.{_≡_, refl, sym, ap, _∙_, subst}
 use native.Mathlib.Omega.{arith}
 use lib.ListN.{length}
-use lib.Dec.{leb}
-use borrow.Author.Tests.{leb-true, le-leb}
-use Rattle.lists.proofs.Tests.{split, both}
+use Rattle.lists.proofs.Tests.{split}
 use Rattle.rows.specs.declared.Found.the-variants.{At, Nowhere}
 use Rattle.receive_answer.specs.declared.Arrival.{Arrival}
 use Rattle.receive_answer.specs.declared.Network.{Network}
@@ -19,6 +17,7 @@ use Rattle.receive_sequence.specs.Sequence.{passes, numberCount}
 use Rattle.receive.specs.Lent.{skewIn, rowFound}
 use Rattle.receive_answer.specs.Answer.{other, receptionCode, inSkew}
 use Rattle.receive_answer.proofs.Answer.{reception-late, reception-out, by-reception}
+use Rattle.receive_answer.proofs.Claims.{awaits-copy, in-skew-at}
 use Rattle.receive_history.specs.History.{Answered, answeredOf, Empty, Octets}
 use Rattle.receive_history.specs.Rule.{ofLink, newestTime, newestNumber, numbered, unmet, ruleOn, ruleBy, ruleAnswer}
 use Rattle.receive_history.specs.Words.{pastOf, nextAnswer, DeliveryOf, CopyOf, MeetsDelivery, CopyOrDelivered, OtherReceptionsInWords, CopiesInWords, CopyMeetsDelivery, MetOnce, AloneDelivered}
@@ -127,28 +126,11 @@ module _ (x : Network) (n : ℕ) where
       ∙ unmet-is later b earlier q (λ c m. u c (List·Memᴰ·tail m)) (λ c m. v c (List·Memᴰ·tail m))
 
 -- ---- a frame and the delivery that it meets
-pub record Within (skew : ℕ) (o : Option ℕ) (t : ℕ) : Type 0 where
-  pub time : ℕ
-  pub is : o ≡ some time
-  pub not-after : time ≤ t
-  pub in-skew : t - time ≤ skew
-
-pub skew-within : (skew : ℕ) (o : Option ℕ) (t : ℕ) → inSkew skew o t ≡ true → Within skew o t
-unfolding inSkew
-skew-within skew none t e = absurd (false≢true e)
-skew-within skew (some d) t e =
-    let b = both (leb d t) (leb (t - d) skew) e in
-    record { time = d; is = refl; not-after = leb-true _ _ (b .0); in-skew = leb-true _ _ (b .1) }
-
-skew-is : (skew d t : ℕ) → d ≤ t → t - d ≤ skew → inSkew skew (some d) t ≡ true
-unfolding inSkew
-skew-is skew d t h l = ap₂ _&&_ (le-leb _ _ h) (le-leb _ _ l)
-
 module _ (skew : ℕ) (p : List Answered) (f : Arrival) where
   meets : inSkew skew (unmet (other (f .network)) (f .number) p) (f .time) ≡ true → MeetsDelivery skew p f
   meets e =
-      let w = skew-within skew (unmet (other (f .network)) (f .number) p) (f .time) e in
-      let q = unmet-found (other (f .network)) (f .number) p (w .time) (w .is) in
+      let w = awaits-copy skew (unmet (other (f .network)) (f .number) p) (f .time) e in
+      let q = unmet-found (other (f .network)) (f .number) p (w .time) (w .awaits) in
       let z : q .delivery .frame .time ≡ w .time = q .time in
       let u : w .time ≤ f .time = w .not-after in
       let v : f .time - w .time ≤ skew = w .in-skew in
@@ -170,7 +152,7 @@ module _ (skew : ℕ) (p : List Answered) (f : Arrival) where
       (ap (unmet (other (f .network)) (f .number)) (m .stands)
       ∙ unmet-is (other (f .network)) (f .number) (m .later) (m .delivery) (m .earlier) (m .same) (m .latest)
       (λ a n c. m .not-met a n (c .0, c .1 ∙ other-other (f .network), c .2)))
-      ∙ skew-is skew (m .delivery .frame .time) (f .time) (m .not-after) (m .in-skew)
+      ∙ in-skew-at skew (m .delivery .frame .time) (f .time) (m .not-after) (m .in-skew)
 
   -- the answer that is a copy
   pub copy-skew : ruleOn skew p f ≡ Copy → inSkew skew (unmet (other (f .network)) (f .number) p) (f .time) ≡ true

@@ -1,4 +1,5 @@
--- One link apart from all other traffic (document 02, Q-1, the last sentence); proved in proofs/Isolation.antt.
+-- One link apart from all other traffic (document 02, Q-1: "Two runs that differ only in other links' frames deliver the same on
+-- this link"); proved in proofs/Isolation.antt.
 use Prim.Native.Nat.{ℕ}
 use mathlib.Core.List.{List}
 use mathlib.Core.Path.{_≡_}
@@ -12,6 +13,16 @@ pub record SameOnLink (link : ℕ) (rows r : List ℕ) (h : List Arrival) (rows�
   pub says : answersTo (onLink link) h (frameAnswers rows r h) ≡ answersTo (onLink link) h′ (frameAnswers rows′ r′ h′)
   pub leaves : memoryOf rows (finalMemory rows r h) link ≡ memoryOf rows′ (finalMemory rows′ r′ h′) link
 
+-- from any memories, those of the link the same in both
+abbrev pub ReceptionsApartFromAny : Type 0
+ReceptionsApartFromAny =
+    (link : ℕ) (rows r : List ℕ) (h : List Arrival) → Octets h
+    → (rows′ r′ : List ℕ) (h′ : List Arrival) → Octets h′
+    → skewOf rows r link ≡ skewOf rows′ r′ link → memoryOf rows r link ≡ memoryOf rows′ r′ link
+    → only (onLink link) h ≡ only (onLink link) h′
+    → SameOnLink link rows r h rows′ r′ h′
+
+-- from empty ones
 abbrev pub ReceptionsApart : Type 0
 ReceptionsApart =
     (link : ℕ) (rows r : List ℕ) → Empty rows r → (h : List Arrival) → Octets h
