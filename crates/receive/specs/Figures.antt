@@ -18,7 +18,7 @@ use Rattle.receive.specs.Lent.{timeWord, numberWord, awaitingWord, deliv
 abbrev pub threeRows : List ℕ
 threeRows = 1 ∷ 2 ∷ 3 ∷ 4 ∷ 5 ∷ 6 ∷ 7 ∷ 8 ∷ 9 ∷ 10 ∷ 11 ∷ 12 ∷ 1 ∷ 2 ∷ 13 ∷ 14 ∷ 15 ∷ 16 ∷ []
 
--- their SkewMax; the rows that are found with three memories, the first of two with one number; 515 and 3 stand elsewhere in a row
+-- their SkewMax; the rows that are found with three memories, the first of two with one number; 515 and 3 stand elsewhere
 abbrev pub SkewRowFigures : Type 0
 SkewRowFigures =
     (map (skewIn threeRows) (0 ∷ 1 ∷ 2 ∷ []) ≡ 50595078 ∷ 151653132 ∷ 219025168 ∷ [])
@@ -43,7 +43,9 @@ pub record RowsInUseExactly : Type 0 where
 abbrev pub MemoryFigures : Type 0
 MemoryFigures =
     (skewRowOctets ≡ 6) × (memoryWords ≡ 1027) × (timeWord ≡ 0) × (map numberWord (A ∷ B ∷ []) ≡ 1 ∷ 2 ∷ [])
-    × (map (awaitingWord A) (0 ∷ 1 ∷ 255 ∷ []) ≡ 3 ∷ 5 ∷ 513 ∷ []) × (map (deliveredWord A) (0 ∷ 1 ∷ 255 ∷ []) ≡ 4 ∷ 6 ∷ 514 ∷ [])
-    × (map (awaitingWord B) (0 ∷ 1 ∷ 255 ∷ []) ≡ 515 ∷ 517 ∷ 1025 ∷ []) × (map (deliveredWord B) (0 ∷ 1 ∷ 255 ∷ []) ≡ 516 ∷ 518 ∷ 1026 ∷ [])
+    × (map (awaitingWord A) (0 ∷ 1 ∷ 255 ∷ []) ≡ 3 ∷ 5 ∷ 513 ∷ [])
+    × (map (deliveredWord A) (0 ∷ 1 ∷ 255 ∷ []) ≡ 4 ∷ 6 ∷ 514 ∷ [])
+    × (map (awaitingWord B) (0 ∷ 1 ∷ 255 ∷ []) ≡ 515 ∷ 517 ∷ 1025 ∷ [])
+    × (map (deliveredWord B) (0 ∷ 1 ∷ 255 ∷ []) ≡ 516 ∷ 518 ∷ 1026 ∷ [])
     × (map numberOf (0 ∷ 1 ∷ 256 ∷ []) ≡ none ∷ some 0 ∷ some 255 ∷ [])
     × (deliveryOf 0 9 ≡ none) × (deliveryOf 1 9 ≡ some 9)

@@ -6,6 +6,7 @@ use Rattle.receive_answer.proofs.Claims.{answers-apart, reception-numbers, answ
 use Rattle.receive_sequence.proofs.Claims.{pass-table, passes-exactly}
 use Rattle.receive_history.specs.Claims.{ReceivingEnd}
 use Rattle.receive_history.proofs.Counts.{one-copy-each}
+use Rattle.receive_history.proofs.Figures.{history-in-figures}
 use Rattle.receive_history.proofs.Isolation.{receptions-apart-from-any, receptions-apart}
 use Rattle.receive_history.proofs.Meeting.{others-in-words, copies-in-words, copy-meets-delivery, met-once, alone-delivered}
 use Rattle.receive_history.proofs.Rule.{rule-of-receptions, rule-of-next}
@@ -36,6 +37,7 @@ receiving-end =
       pass-table = pass-table;
       passes-exactly = passes-exactly;
       rule = rule-of-receptions;
+      history-in-figures = history-in-figures;
       rule-of-next = rule-of-next;
       others-in-words = others-in-words;
       copies-in-words = copies-in-words;

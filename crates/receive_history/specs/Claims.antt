@@ -13,6 +13,7 @@ use Rattle.receive.specs.Figures.{SkewRowFigures, SkewRowReads, RowsInUseExactl
 use Rattle.receive_answer.specs.Claims.{AnswersApart, ReceptionNumbers, AnswersExactly, LaterCountsAsNone, AnswersInFigures}
 use Rattle.receive_history.specs.History.{frameAnswers, Empty, Octets}
 use Rattle.receive_history.specs.Rule.{ruleAnswers}
+use Rattle.receive_history.specs.Figures.{HistoryInFigures}
 use Rattle.receive_history.specs.Isolation.{ReceptionsApartFromAny, ReceptionsApart}
 use Rattle.receive_history.specs.Words.{RuleOfNext, OtherReceptionsInWords, CopiesInWords, CopyMeetsDelivery}
 use Rattle.receive_history.specs.Words.{MetOnce, OneCopyEach, AloneDelivered}
@@ -46,6 +47,7 @@ pub record ReceivingEnd : Type 0 where
   pub pass-table : PassTable
   pub passes-exactly : PassesExactly
   pub rule : RuleOfReceptions
+  pub history-in-figures : HistoryInFigures
   pub rule-of-next : RuleOfNext
   pub others-in-words : OtherReceptionsInWords
   pub copies-in-words : CopiesInWords

@@ -1,4 +1,5 @@
 pub mod Claims
+pub mod Figures
 pub mod History
 pub mod Isolation
 pub mod Rule

@@ -9,7 +9,7 @@ use Rattle.rows.specs.declared.Found.the-variants.{At, Nowhere}
 abbrev pub RowsInUse : Type 0
 RowsInUse = (map (inUse 13 26) (0 ∷ 1 ∷ 2 ∷ 3 ∷ []) ≡ 0 ∷ 1 ∷ 2 ∷ 2 ∷ []) × (inUse 13 25 9 ≡ 1)
 
--- of two rows with one number the first counts: rows of 3 octets with the numbers 258, 1,029 and 258; 515 stands elsewhere in a row
+-- of two rows with one number the first counts: rows of 3 octets with the numbers 258, 1,029 and 258; 515 stands elsewhere
 abbrev pub FirstRowCounts : Type 0
 FirstRowCounts =
     map (foundIn (tableOf 3 (1 ∷ 2 ∷ 3 ∷ 4 ∷ 5 ∷ 6 ∷ 1 ∷ 2 ∷ 7 ∷ [])) 3) (258 ∷ 1029 ∷ 515 ∷ [])
