@@ -6,7 +6,7 @@ use Rattle.lists.specs.Leading.{leading}
 use Rattle.replay_words.specs.Digits.{digitsOf, widthOf}
 use Rattle.replay_text.specs.Text.{space, lineEnd, frameLine, refusedLine}
 use Rattle.replay_words.specs.Words.{wordOf}
-use Rattle.replay_text.specs.Claims.{LinesFit, SheetLines}
+use Rattle.replay_text.specs.Claims.{LinesFit, LinesByVerdict, SheetLines, OtherLines}
 use Rattle.replay_words.proofs.Words.{word-most, word-code, word-credit}
 
 pub lines-fit : LinesFit
@@ -23,6 +23,14 @@ lines-fit number code credit offset h k =
       omega arith,
     )
 
+pub lines-by-verdict : LinesByVerdict
+unfolding frameLine refusedLine
+lines-by-verdict number mask credit code offset = (refl, refl, refl, refl, refl)
+
 pub sheet-lines : SheetLines
 unfolding frameLine wordOf digitsOf widthOf leading
-sheet-lines = (refl, refl, refl, refl, refl)
+sheet-lines = (refl, refl, refl, refl, refl, refl)
+
+pub other-lines : OtherLines
+unfolding frameLine refusedLine wordOf digitsOf widthOf leading
+other-lines = (refl, refl, refl, refl, refl)
