@@ -13,10 +13,6 @@ use Rattle.replay_log.specs.Records.{recordTag, timeOctets, timeAndPortO
 use Rattle.replay_log.specs.declared.Entry.{Entry}
 use Rattle.replay_log.specs.declared.Entry.the-variants.{Frame, More, Cut, End}
 
-pub open-cut : (w : Bool) → w ≡ true → Cut ≡ unsettled w
-unfolding unsettled
-open-cut w e = simp e
-
 pub open-more : (w : Bool) → w ≡ false → More ≡ unsettled w
 unfolding unsettled
 open-more w e = simp e

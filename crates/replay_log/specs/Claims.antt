@@ -1,9 +1,12 @@
--- What holds of logs whatever they are (document 01, "The replay program"); proved in proofs/Settled.antt.
-use Prim.Native.Nat.{ℕ, _+_, _≤_, _<_}
-use mathlib.Core.Bool.{Bool, false}
-use mathlib.Core.List.{List, _++_}
+-- What holds of logs whatever they are (document 01, "The replay program"); proved in proofs/Settled.antt and proofs/Claims.antt.
+use Prim.Native.Nat.{ℕ, _+_, _^_, _≤_, _<_}
+use mathlib.Core.Bool.{Bool, true, false}
+use mathlib.Core.List.{List, _∷_, _++_}
 use mathlib.Core.Path.{_≡_}
 use lib.ListN.{length, getD}
+use Rattle.octets.specs.Numbers.{numberAt, octetsOf}
+use Rattle.octets.specs.Runs.{octetsAt}
+use Rattle.fields.specs.Fields.{fieldOf}
 use Rattle.replay_log.specs.Records.{frameStart, longestRecord, nextIn}
 use Rattle.replay_log.specs.declared.FrameRecord.{FrameRecord}
 use Rattle.replay_log.specs.declared.Entry.{Entry}
@@ -33,3 +36,31 @@ abbrev pub FrameInside : Type 0
 FrameInside =
     (s : List ℕ) (at : ℕ) (whole : Bool) (r : FrameRecord) → nextIn s at whole ≡ Frame r
     → (r .start ≡ at + frameStart) × (r .next ≡ r .start + r .size) × (r .next ≤ length s)
+
+-- ---- what stands at an offset, in the figures of document 01
+abbrev pub frameRecord : ℕ → ℕ → ℕ → ℕ → ℕ → FrameRecord
+frameRecord time port start size next = record { time = time; port = port; start = start; size = size; next = next }
+
+-- a record: tag 16, a length, the time (8), the port (1), the frame
+unfoldable pub recordOf : ℕ → ℕ → List ℕ → List ℕ
+recordOf time port frame = fieldOf 16 (octetsOf 8 time ++ (port ∷ frame))
+
+-- a record that is spelled reads back, whatever stands before and after it, and its frame's octets stand where the answer says
+abbrev pub RecordReadsBack : Type 0
+RecordReadsBack =
+    (before after frame : List ℕ) (time port : ℕ) (whole : Bool) → time < 2 ^ 64 → 9 + length frame < 2 ^ 16
+    → (nextIn (before ++ recordOf time port frame ++ after) (length before) whole
+    ≡ Frame (frameRecord time port (length before + 12) (length frame) (length before + 12 + length frame)))
+    × (octetsAt (length frame) (before ++ recordOf time port frame ++ after) (length before + 12) ≡ frame)
+
+-- what is no whole record: the log's end where no octet is left, `cut` for another tag and for a length under 9, and for a record
+-- of which octets are missing where none follow
+abbrev pub NoWholeRecord : Type 0
+NoWholeRecord =
+    (s : List ℕ) (at : ℕ)
+    → (length s ≤ at → (nextIn s at true ≡ End) × (nextIn s at false ≡ More))
+    × ((whole : Bool) → at < length s → (getD s at 0 ≡ 16 → ⊥) → nextIn s at whole ≡ Cut)
+    × ((whole : Bool) → at + 3 ≤ length s → getD s at 0 ≡ 16 → numberAt 2 s (at + 1) < 9 → nextIn s at whole ≡ Cut)
+    × (at < length s → getD s at 0 ≡ 16 → length s < at + 3 → (nextIn s at true ≡ Cut) × (nextIn s at false ≡ More))
+    × (at + 3 ≤ length s → getD s at 0 ≡ 16 → 9 ≤ numberAt 2 s (at + 1) → length s < at + (3 + numberAt 2 s (at + 1))
+    → (nextIn s at true ≡ Cut) × (nextIn s at false ≡ More))
