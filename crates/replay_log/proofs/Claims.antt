@@ -65,7 +65,9 @@ module _ (before after frame : List ℕ) (time port : ℕ) (small : 9 + length f
   time-is : time < 2 ^ 64 → time ≡ numberAt 8 run (length before + 3)
   time-is h =
       sym (number-shift 8 run (octetsOf 8 time) (length before + 3) 0
-      (λ k b. octet k (omega arith) ∙ bytes-time time port frame k b ∙ ap (λ (i : ℕ). getD (octetsOf 8 time) i 0) (sym (zero-add k)))
+      (λ k b.
+      octet k (omega arith) ∙ bytes-time time port frame k b
+      ∙ ap (λ (i : ℕ). getD (octetsOf 8 time) i 0) (sym (zero-add k)))
       ∙ number-octets 8 time (omega arith))
 
   port-is : port ≡ getD run (length before + 11) 0
@@ -81,7 +83,8 @@ module _ (before after frame : List ℕ) (time port : ℕ) (small : 9 + length f
       ap (λ (i : ℕ). getD run i 0) e ∙ octet (9 + k) (omega arith) ∙ bytes-frame time port frame k)
 
   entry-is : (whole : Bool) → time < 2 ^ 64
-      → Frame (frameRecord time port (length before + 12) (length frame) (length before + 12 + length frame)) ≡ nextIn run (length before) whole
+      → Frame (frameRecord time port (length before + 12) (length frame) (length before + 12 + length frame))
+      ≡ nextIn run (length before) whole
   entry-is whole h =
       let n : 9 + length frame ≡ lengthAt run (length before) = sym n-is ∙ sym (ap (λ (f : Field). f .size) field-is) in
       let headed : true ≡ leb (length before + 3) (length run) = sym (ap (λ (f : Field). f .headed) field-is) in
@@ -103,11 +106,13 @@ record-reads-back before after frame time port whole h small =
 module _ (s : List ℕ) (at : ℕ) (tag : getD s at 0 ≡ 16) where
   -- tag and length are there
   headed : at + 3 ≤ length s → (whole : Bool) (x : Entry) → x ≡ recordAt s at whole → nextIn s at whole ≡ x
-  headed h whole x e = sym (next-logged s at whole (omega arith) (getD s at 0) refl tag true (sym (le-leb (at + 3) (length s) h)) x refl e)
+  headed h whole x e =
+      sym (next-logged s at whole (omega arith) (getD s at 0) refl tag true (sym (le-leb (at + 3) (length s) h)) x refl e)
 
   -- they are not, or the data is not
   no-length : at < length s → length s < at + 3 → (whole : Bool) (x : Entry) → x ≡ unsettled whole → nextIn s at whole ≡ x
-  no-length h l whole x e = sym (next-open s at whole h (getD s at 0) refl tag false (sym (lt-leb (at + 3) (length s) l)) x refl e)
+  no-length h l whole x e =
+      sym (next-open s at whole h (getD s at 0) refl tag false (sym (lt-leb (at + 3) (length s) l)) x refl e)
 
   no-data : at + 3 ≤ length s → 9 ≤ lengthAt s at → length s < at + (3 + lengthAt s at)
       → (whole : Bool) (x : Entry) → x ≡ unsettled whole → nextIn s at whole ≡ x

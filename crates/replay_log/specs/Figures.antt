@@ -4,7 +4,8 @@ use mathlib.Core.Bool.{Bool, true, false}
 use mathlib.Core.List.{List, [], _∷_, map}
 use mathlib.Core.Path.{_≡_}
 use Rattle.replay_log.specs.Claims.{frameRecord}
-use Rattle.replay_log.specs.Records.{recordTag, timeOctets, timeAndPortOctets, portOffset, frameStart, longestRecord, nextIn}
+use Rattle.replay_log.specs.Records.{recordTag, timeOctets, timeAndPortOctets, portOffset, frameStart}
+use Rattle.replay_log.specs.Records.{longestRecord, nextIn}
 use Rattle.replay_log.specs.declared.Entry.the-variants.{Frame, More, Cut, End}
 
 -- a record of three frame octets after two other octets and before one; no two of its octets are equal
@@ -33,7 +34,8 @@ cutShort =
 -- where more may
 abbrev pub RecordFigures : Type 0
 RecordFigures =
-    (recordTag ∷ timeOctets ∷ timeAndPortOctets ∷ portOffset ∷ frameStart ∷ longestRecord ∷ [] ≡ 16 ∷ 8 ∷ 9 ∷ 11 ∷ 12 ∷ 65538 ∷ [])
+    (recordTag ∷ timeOctets ∷ timeAndPortOctets ∷ portOffset ∷ frameStart ∷ longestRecord ∷ []
+    ≡ 16 ∷ 8 ∷ 9 ∷ 11 ∷ 12 ∷ 65538 ∷ [])
     × ((whole : Bool) → nextIn sampleLog 2 whole ≡ Frame (frameRecord 1519427316551916316 29 14 3 17))
     × ((whole : Bool) → nextIn nineLong 0 whole ≡ Frame (frameRecord 1519427316551916316 29 12 0 12))
     × ((whole : Bool) → nextIn eightLong 0 whole ≡ Cut)

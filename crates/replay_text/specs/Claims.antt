@@ -16,8 +16,8 @@ LinesFit =
     → (length (frameLine number code none) ≤ longestLine) × (length (frameLine number code (some credit)) ≤ longestLine)
     × (length (refusedLine code offset) ≤ longestLine) × (length headerLine ≤ longestLine) × (length cutLine ≤ longestLine)
 
--- the line of every verdict in words: number, code, and the credit of 0, 9 and 8, else a dash (45), with a space (32) between them
--- and the line's end (10) after them; and the line of every refused image: `image`, its code, its offset
+-- the line of every verdict in words: number, code, and the credit of 0, 9 and 8, else a dash (45), with a space (32) between
+-- them and the line's end (10) after them; and the line of every refused image: `image`, its code, its offset
 abbrev pub LinesByVerdict : Type 0
 LinesByVerdict =
     (number mask credit code offset : ℕ)
