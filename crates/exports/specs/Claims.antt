@@ -47,8 +47,8 @@ StepFigures =
     × (stepDoneOf (stepped (Outcome.Late credit) a) ≡ stepDone (stepNumbers 8 credit) a)
     × (stepDoneOf (stepped (Outcome.Refused code) a) ≡ stepDone (stepNumbers code 0) a))
 
--- ---- the frame call: 0 with mask and credit, 9 and 8 with their credit and mask 0, any other code with zeros; and the state after
--- it
+-- ---- the frame call: 0 with mask and credit, 9 and 8 with their credit and mask 0, any other code with zeros; and the state
+-- after it
 abbrev pub CallFigures : Type 0
 CallFigures =
     ((code mask credit : ℕ)
