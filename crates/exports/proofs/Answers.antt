@@ -2,7 +2,7 @@
 use Prim.Native.Nat.{ℕ}
 use mathlib.Core.Bool.{_&&_}
 use mathlib.Core.List.{List}
-use mathlib.Core.Path.{_≡_, ap, _∙_}
+use mathlib.Core.Path.{_≡_, ap, sym, _∙_}
 use lib.Dec.{leb}
 use borrow.Author.Tests.{eq-eqb, ne-eqb}
 use Rattle.lists.proofs.Tests.{split}
@@ -47,6 +47,10 @@ call-done n w s r p q = ap (λ m. callDone m s) p ∙ ap callDoneOf q
 
 pub load-done : (q a : ImageAnswer) (r : Runs) (l : Loading) → q ≡ a → loadingOf a r ≡ l → loadingOf q r ≡ l
 load-done q a r l e f = ap (λ (x : ImageAnswer). loadingOf x r) e ∙ f
+
+-- a reader's place is the offset that is reported
+pub place-done : (q a : ImageAnswer) (n : ℕ) → q ≡ a → n ≡ a .offset → n ≡ q .offset
+place-done q a n e f = f ∙ ap (λ (x : ImageAnswer). x .offset) (sym e)
 
 -- a network by its number
 pub network-a : (n : ℕ) → n ≡ 0 → A ≡ networkOf n

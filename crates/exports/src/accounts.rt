@@ -121,3 +121,31 @@ pub extern "C" fn ashthulgo_police(
     *reported = said.credit;
     said.code
 }
+
+// The policing step by way of an account that is lent to `account::police_in_place`: the same numbers as
+// `ashthulgo_police`.
+#[no_mangle]
+pub extern "C" fn ashthulgo_police_in_place(
+    smax: u16,
+    k: u8,
+    jitter: u16,
+    mode: u8,
+    credit: &mut u32,
+    last: &mut u64,
+    octets: usize,
+    time: u64,
+    reported: &mut u32,
+) -> u8
+    ensures { λ r. ⌜ stepDone (stepNumbers r (now (reported .exit))) (accountWith smax k jitter mode (now (credit .exit)) (now (last .exit)))
+        ≡ stepDoneOf (policed (accountWith smax k jitter mode (now (credit .entry)) (now (last .entry))) octets time) ⌝ }
+{
+    let account = account_of(smax, k, jitter, mode, *credit, *last);
+    let step = account_lent::police_lent(account, octets, time);
+    let outcome = step.outcome;
+    let left = step.account;
+    let said = numbers(outcome);
+    *credit = left.credit;
+    *last = left.last;
+    *reported = said.credit;
+    said.code
+}

@@ -64,6 +64,33 @@ pub extern "C" fn ashthulgo_load(
     report(answer, offset, constant, account_count, link_count)
 }
 
+// Loads an image into lent tables through a reader that stands at any place; the place is then the offset answered.
+#[no_mangle]
+pub extern "C" fn ashthulgo_reader_load(
+    image: &[u8],
+    place: &mut usize,
+    accounts: &mut [u8],
+    credits: &mut [u32],
+    lasts: &mut [u64],
+    links: &mut [u8],
+    offset: &mut usize,
+    constant: &mut u32,
+    account_count: &mut usize,
+    link_count: &mut usize,
+) -> u8
+    ensures { λ r. ⌜ loadingOf
+        (loadedWith r (now (offset .exit)) (now (constant .exit)) (now («account_count» .exit)) (now («link_count» .exit)))
+        (runsOf (now (accounts .exit)) (now (credits .exit)) (now (lasts .exit)) (now (links .exit)))
+        ≡ loading (now (image .entry))
+        (runsOf (now (accounts .entry)) (now (credits .entry)) (now (lasts .entry)) (now (links .entry))) ⌝ }
+    ensures { λ r. ⌜ now (place .exit) ≡ now (offset .exit) ⌝ }
+{
+    let reading = image_reader::load_from(image, *place, accounts, credits, lasts, links);
+    *place = reading.at;
+    let answer = reading.answer;
+    report(answer, offset, constant, account_count, link_count)
+}
+
 // Writes the image of the first rows of two tables.
 #[no_mangle]
 pub extern "C" fn ashthulgo_write(
