@@ -100,6 +100,12 @@ uint8_t ashthulgo_police(uint16_t smax, uint8_t k, uint16_t jitter, uint8_t mode
                          size_t octets, uint64_t time, uint32_t *reported);
 
 /*
+ * The policing step by way of an account that is changed in place: answers and changes the same as ashthulgo_police.
+ */
+uint8_t ashthulgo_police_in_place(uint16_t smax, uint8_t k, uint16_t jitter, uint8_t mode, uint32_t *credit, uint64_t *last,
+                                  size_t octets, uint64_t time, uint32_t *reported);
+
+/*
  * The frame call: answers 0 to 10. constant, account_count, link_count: as loading answered them. Where fewer rows, credits
  * or last times are lent than a count says, those that are lent count. credits, lasts: one element an account; only those
  * of the frame's account change, and only with 0 and 9. mask: the output ports of 0. credit: what 0, 8 and 9 carry. Both are
@@ -126,6 +132,15 @@ uint8_t ashthulgo_check(const uint8_t *image, size_t image_octets, size_t *offse
 uint8_t ashthulgo_load(const uint8_t *image, size_t image_octets, uint8_t *accounts, size_t account_octets, uint32_t *credits,
                        size_t credit_count, uint64_t *lasts, size_t last_count, uint8_t *links, size_t link_octets,
                        size_t *offset, uint32_t *constant, size_t *account_count, size_t *link_count);
+
+/*
+ * Loads an image through a reader: answers and fills the same as ashthulgo_load. place: the reader's place in the image, read,
+ * and changed to the offset answered. Any place will do, also one past the image; the whole image is loaded from any.
+ */
+uint8_t ashthulgo_reader_load(const uint8_t *image, size_t image_octets, size_t *place, uint8_t *accounts,
+                              size_t account_octets, uint32_t *credits, size_t credit_count, uint64_t *lasts,
+                              size_t last_count, uint8_t *links, size_t link_octets, size_t *offset, uint32_t *constant,
+                              size_t *account_count, size_t *link_count);
 
 /*
  * Writes the image of the first rows of two tables: answers 0, 23, 24 or 26. offset: the image's length with 0, the offset

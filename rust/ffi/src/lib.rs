@@ -133,6 +133,24 @@ pub fn police(t: &Terms, credit: &mut u32, last: &mut u64, octets: usize, time: 
     StepAnswer { code, credit: reported }
 }
 
+/// The same by way of an account that is changed in place.
+pub fn police_in_place(
+    t: &Terms,
+    credit: &mut u32,
+    last: &mut u64,
+    octets: usize,
+    time: u64,
+) -> StepAnswer {
+    let mut reported = 0;
+    // SAFETY: exclusive references, and a place of its own.
+    let code = unsafe {
+        raw::ashthulgo_police_in_place(
+            t.smax, t.k, t.jitter, t.mode, credit, last, octets, time, &mut reported,
+        )
+    };
+    StepAnswer { code, credit: reported }
+}
+
 #[inline]
 pub fn frame_call(
     frame: &[u8],
@@ -197,6 +215,39 @@ pub fn load(
         raw::ashthulgo_load(
             image.as_ptr(),
             image.len(),
+            accounts.as_mut_ptr(),
+            accounts.len(),
+            credits.as_mut_ptr(),
+            credits.len(),
+            lasts.as_mut_ptr(),
+            lasts.len(),
+            links.as_mut_ptr(),
+            links.len(),
+            &mut said.offset,
+            &mut said.constant,
+            &mut said.accounts,
+            &mut said.links,
+        )
+    };
+    said
+}
+
+/// The same through a reader: its place before, and then the offset answered.
+pub fn reader_load(
+    image: &[u8],
+    place: &mut usize,
+    accounts: &mut [u8],
+    credits: &mut [u32],
+    lasts: &mut [u64],
+    links: &mut [u8],
+) -> ImageAnswer {
+    let mut said = ImageAnswer::default();
+    // SAFETY: slices, four of them exclusive, an exclusive reference, and places of their own.
+    said.code = unsafe {
+        raw::ashthulgo_reader_load(
+            image.as_ptr(),
+            image.len(),
+            place,
             accounts.as_mut_ptr(),
             accounts.len(),
             credits.as_mut_ptr(),

@@ -37,6 +37,17 @@ extern "C" {
         time: u64,
         reported: *mut u32,
     ) -> u8;
+    pub fn ashthulgo_police_in_place(
+        smax: u16,
+        k: u8,
+        jitter: u16,
+        mode: u8,
+        credit: *mut u32,
+        last: *mut u64,
+        octets: usize,
+        time: u64,
+        reported: *mut u32,
+    ) -> u8;
     pub fn ashthulgo_frame_call(
         frame: *const u8,
         frame_octets: usize,
@@ -67,6 +78,23 @@ extern "C" {
     pub fn ashthulgo_load(
         image: *const u8,
         image_octets: usize,
+        accounts: *mut u8,
+        account_octets: usize,
+        credits: *mut u32,
+        credit_count: usize,
+        lasts: *mut u64,
+        last_count: usize,
+        links: *mut u8,
+        link_octets: usize,
+        offset: *mut usize,
+        constant: *mut u32,
+        account_count: *mut usize,
+        link_count: *mut usize,
+    ) -> u8;
+    pub fn ashthulgo_reader_load(
+        image: *const u8,
+        image_octets: usize,
+        place: *mut usize,
         accounts: *mut u8,
         account_octets: usize,
         credits: *mut u32,

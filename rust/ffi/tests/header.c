@@ -28,6 +28,13 @@ static void check_and_load(void)
                           &offset, &constant, &account_count, &link_count);
     printf("load %u %zu %" PRIx32 " %zu %zu %" PRIu32 " %" PRIu64 "\n", code, offset, constant, account_count, link_count,
            credits[0], lasts[0]);
+    size_t place = SIZE_MAX;
+    code = ashthulgo_reader_load(image, sizeof image - 3, &place, accounts, sizeof accounts, credits, 1, lasts, 1, links,
+                                 sizeof links, &offset, &constant, &account_count, &link_count);
+    printf("reader %u %zu %zu\n", code, offset, place);
+    code = ashthulgo_reader_load(image, sizeof image, &place, accounts, sizeof accounts, credits, 1, lasts, 1, links,
+                                 sizeof links, &offset, &constant, &account_count, &link_count);
+    printf("reader %u %zu %zu %" PRIx32 " %zu %zu\n", code, offset, place, constant, account_count, link_count);
 }
 
 static void call(size_t octets, uint64_t time)
@@ -51,6 +58,8 @@ static void account(void)
     printf("top up %" PRIu32 " %" PRIu64 "\n", credit, last);
     uint8_t code = ashthulgo_police(200, 0, 500, 0, &credit, &last, 200, 500, &told);
     printf("police %u %" PRIu32 " | %" PRIu32 " %" PRIu64 "\n", code, told, credit, last);
+    code = ashthulgo_police_in_place(200, 0, 500, 0, &credit, &last, 64, 820, &told);
+    printf("in place %u %" PRIu32 " | %" PRIu32 " %" PRIu64 "\n", code, told, credit, last);
     code = ashthulgo_police(200, 0, 500, 4, &credit, &last, 200, 500, &told);
     printf("police %u %" PRIu32 " | %" PRIu32 " %" PRIu64 "\n", code, told, credit, last);
 }

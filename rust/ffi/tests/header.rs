@@ -6,6 +6,8 @@ use std::process::Command;
 const EXPECTED: &str = "\
 check 20 33 0 0 0
 load 0 36 3000000 1 1 300000 0
+reader 20 33 33
+reader 0 36 36 3000000 1 1
 call 0 8 100000 | 100000 0
 call 9 0 199800 | 199800 499
 call 0 8 0 | 0 500
@@ -17,7 +19,8 @@ cost 64000 200000
 line octets 330000 84000 220000
 top up 199800 499
 police 0 0 | 0 500
-police 10 0 | 0 500
+in place 0 0 | 0 820
+police 10 0 | 0 820
 read 0 258 77 45
 write 0 36 0 ee
 receive 0 | 100 2 0

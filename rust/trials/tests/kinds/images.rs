@@ -1,4 +1,4 @@
-//! Reading and loading images, and writing the accepted ones again.
+//! Reading and loading images, writing the accepted ones again, and loading through a reader.
 
 use ffi::ImageAnswer;
 use trials::plan::Plan;
@@ -25,6 +25,37 @@ fn read(image: &ReadOnly, before: &Runs) -> Result<(ImageAnswer, Runs), Mismatch
     }
     image.stayed("the image lent for reading")?;
     Ok((ours, rattle))
+}
+
+/// Loads through a reader that stands at a place: the answer and the runs of both loads, and the place is the offset answered.
+fn read_from(
+    image: &ReadOnly,
+    place: usize,
+    before: &Runs,
+    (answer, after): (&ImageAnswer, &Runs),
+) -> Result<ImageAnswer, Mismatch> {
+    let (mut reader, mut rust) = (before.clone(), before.clone());
+    let mut left = place;
+    let ours = reader.load_by_reader(image.run(), &mut left);
+    let theirs = rust.load_by_rust(image.run());
+    same("load through a reader", &ours, &theirs)?;
+    same("the reader's place", &left, &theirs.offset)?;
+    reader.same(&rust)?;
+    agree("the answer", ("reader", &ours), ("load", answer))?;
+    agree("the runs", ("reader", &reader), ("load", after))?;
+    image.stayed("the image lent for reading")?;
+    Ok(ours)
+}
+
+/// A reader's place, and which of them it is.
+fn any_place(r: &mut Random, image: usize) -> (u8, usize) {
+    match r.below(5) {
+        0 => (0, 0),
+        1 => (1, r.below(image as u64) as usize),
+        2 => (2, image),
+        3 => (3, image + r.count(1, 5_000)),
+        _ => (4, usize::MAX),
+    }
 }
 
 /// Writes what was loaded into a room by both; where there is room, the image comes back.
@@ -96,8 +127,13 @@ pub fn run(r: &mut Random, tally: &mut Tally) -> Result<(), Mismatch> {
     }
     if answer.code == 0 {
         let room = any_room(r, octets.len());
-        guarded(|| write_again(&octets, &answer, runs, &room))
+        guarded(|| write_again(&octets, &answer, runs.clone(), &room))
             .map_err(|m| told(m).octets("room lent", room.run()))?;
     }
+    let (which, place) = any_place(r, octets.len());
+    let through = guarded(|| read_from(&image, place, &before, (&answer, &runs)))
+        .map_err(|m| told(m).input("the reader's place", place))?;
+    tally.count(What::ReaderLoad, through.code);
+    tally.count(What::ReaderPlace, which);
     Ok(())
 }

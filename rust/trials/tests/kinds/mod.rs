@@ -52,7 +52,11 @@ pub const KINDS: [Kind; 9] = [
     Kind {
         name: "images",
         cases: 300_000,
-        covers: &[(What::Image, &[])],
+        covers: &[
+            (What::Image, &[]),
+            (What::ReaderLoad, &[]),
+            (What::ReaderPlace, &[]),
+        ],
         modes: &[(What::Image, &[0, 23], &[23])],
         run: images::run,
     },
@@ -86,7 +90,7 @@ pub const KINDS: [Kind; 9] = [
     Kind {
         name: "steps",
         cases: 40_000,
-        covers: &[(What::Step, &[])],
+        covers: &[(What::Step, &[]), (What::StepInPlace, &[])],
         modes: &[
             (What::Step, &[0, 8, 9, 10], &[10]),
             (What::Edge, &[0, 9], &[]),

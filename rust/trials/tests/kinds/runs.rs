@@ -52,6 +52,17 @@ impl Runs {
         )
     }
 
+    pub fn load_by_reader(&mut self, image: &[u8], place: &mut usize) -> ImageAnswer {
+        ffi::reader_load(
+            image,
+            place,
+            self.accounts.run_mut(),
+            self.credits.run_mut(),
+            self.lasts.run_mut(),
+            self.links.run_mut(),
+        )
+    }
+
     pub fn load_by_rust(&mut self, image: &[u8]) -> ImageAnswer {
         sides::image(policer::load(
             image,

@@ -52,11 +52,19 @@ impl Pair {
         same(after, &ours, &(terms, a.credit, a.last))
     }
 
+    /// The step by value and in place, each from the same account.
     fn police(&mut self, octets: usize, time: u64) -> Result<StepAnswer, Mismatch> {
+        let (mut credit, mut last) = (self.credit, self.last);
+        let in_place = ffi::police_in_place(&self.terms, &mut credit, &mut last, octets, time);
         let ours = ffi::police(&self.terms, &mut self.credit, &mut self.last, octets, time);
         let theirs = sides::step(self.rust.police(octets, time));
         same("the step's answer", &ours, &theirs)?;
         self.same_state("the account after the step")?;
+        let left = (in_place, credit, last);
+        let rust = (theirs, self.rust.credit, self.rust.last);
+        same("the step in place, credit and last time", &left, &rust)?;
+        let by_value = (ours, self.credit, self.last);
+        agree("the step", ("in place", &left), ("by value", &by_value))?;
         Ok(ours)
     }
 
@@ -115,6 +123,7 @@ fn judge(row: &AccountRow, steps: &[(usize, u64)], codes: &Vec<u8>) -> Result<()
 
 fn count(tally: &mut Tally, row: &AccountRow, octets: usize, answer: &StepAnswer) {
     tally.count(What::Step, answer.code);
+    tally.count(What::StepInPlace, answer.code);
     tally.count_frame(What::Step, row, octets, (answer.code, answer.credit));
 }
 

@@ -20,9 +20,15 @@ pub enum What {
     ReceiveAlone,
     /// Frames that the credit just pays for, and those for which it lacks one unit.
     Edge,
+    /// The steps once more, on an account that is changed in place.
+    StepInPlace,
+    /// The images loaded once more, through a reader.
+    ReaderLoad,
+    /// Where the reader stood before: 0 at the start, 1 inside, 2 at the end, 3 past it, 4 at the largest number.
+    ReaderPlace,
 }
 
-const WHAT: [(What, &str, &[usize]); 9] = [
+const WHAT: [(What, &str, &[usize]); 12] = [
     (
         What::FrameCall,
         "frame calls",
@@ -44,6 +50,13 @@ const WHAT: [(What, &str, &[usize]); 9] = [
         &[0, 8, 30, 31],
     ),
     (What::Edge, "credits at a frame's cost", &[0, 9]),
+    (What::StepInPlace, "steps in place", &[0, 1, 2, 8, 9, 10]),
+    (
+        What::ReaderLoad,
+        "loads through a reader",
+        &[0, 20, 21, 22, 23, 24, 25, 26],
+    ),
+    (What::ReaderPlace, "places of a reader", &[0, 1, 2, 3, 4]),
 ];
 
 /// What a run compares by mode: the codes that come up in each mode, and those of numbers that are no mode.
