@@ -136,7 +136,8 @@ pub extern "C" fn ashthulgo_police_in_place(
     time: u64,
     reported: &mut u32,
 ) -> u8
-    ensures { λ r. ⌜ stepDone (stepNumbers r (now (reported .exit))) (accountWith smax k jitter mode (now (credit .exit)) (now (last .exit)))
+    ensures { λ r. ⌜ stepDone (stepNumbers r (now (reported .exit)))
+        (accountWith smax k jitter mode (now (credit .exit)) (now (last .exit)))
         ≡ stepDoneOf (policed (accountWith smax k jitter mode (now (credit .entry)) (now (last .entry))) octets time) ⌝ }
 {
     let account = account_of(smax, k, jitter, mode, *credit, *last);

@@ -85,7 +85,7 @@ pub extern "C" fn ashthulgo_reader_load(
         (runsOf (now (accounts .entry)) (now (credits .entry)) (now (lasts .entry)) (now (links .entry))) ⌝ }
     ensures { λ r. ⌜ now (place .exit) ≡ now (offset .exit) ⌝ }
 {
-    let reading = image_reader::load_from(image, *place, accounts, credits, lasts, links);
+    let reading = image_reader_lent::load_from(image, *place, accounts, credits, lasts, links);
     *place = reading.at;
     let answer = reading.answer;
     report(answer, offset, constant, account_count, link_count)

@@ -40,29 +40,3 @@ pub fn load<'s, 'a>(
     r.at = answer.offset;
     answer
 }
-
-// What a reader answered, and its place then.
-pub struct Reading {
-    pub answer: ImageAnswer,
-    pub at: usize,
-}
-
-// Loads an image through a reader of its own that stands at any place, past the image's end too.
-pub fn load_from(
-    image: &[u8],
-    place: usize,
-    accounts: &mut [u8],
-    credits: &mut [u32],
-    lasts: &mut [u64],
-    links: &mut [u8],
-) -> Reading
-    ensures { λ q. ⌜ loadingOf (q .answer) (runsOf (now (accounts .exit)) (now (credits .exit)) (now (lasts .exit)) (now (links .exit)))
-        ≡ loading (now (image .entry))
-        (runsOf (now (accounts .entry)) (now (credits .entry)) (now (lasts .entry)) (now (links .entry))) ⌝ }
-    ensures { λ q. ⌜ q .at ≡ q .answer .offset ⌝ }
-{
-    let mut r = new(image);
-    r.at = place;
-    let answer = load(&mut r, accounts, credits, lasts, links);
-    Reading { answer, at: at(r) }
-}

@@ -52,30 +52,30 @@ use borrow.Within.Token.{Rest, within-token, within-end}
 use Rattle.image_load.specs.Loading.{loadingOf, loading}
 use Rattle.image_fill.specs.Filling.{runsOf}
 use Rattle.image_read.specs.declared.ImageAnswer.{ImageAnswer}
 use Rattle.image_reader.specs.declared.Reader.{Reader}
-use Rattle.image_reader.specs.declared.Reading.{Reading}
+use Rattle.image_reader_lent.specs.declared.Reading.{Reading}
 use Rattle.image_read.proofs.ImageAnswer as S
 use Rattle.image_read.proofs.ImageAnswer.Laws as S′
 use Rattle.image_reader.proofs.Reader as T
 use Rattle.image_reader.proofs.Reader.Laws as T′
-use Rattle.image_reader.proofs.Reading as G
-use Rattle.image_reader.proofs.Reading.Laws as G′
+use Rattle.image_reader_lent.proofs.Reading as G
+use Rattle.image_reader_lent.proofs.Reading.Laws as G′
 use Rattle.image_reader.proofs.new as new
 use Rattle.image_reader.proofs.new.Symbol as new-def
 use Rattle.image_reader.proofs.new.Symbol.{name as #image-reader·new}
 use Rattle.image_reader.proofs.new.Met as new-thm
 use Rattle.image_reader.proofs.load as lend
 use Rattle.image_reader.proofs.load.Symbol as lend-def
 use Rattle.image_reader.proofs.load.Symbol.{name as #image-reader·load}
 use Rattle.image_reader.proofs.load.Met as lend-thm
 use Rattle.image_reader.proofs.at as place
 use Rattle.image_reader.proofs.at.Symbol as place-def
 use Rattle.image_reader.proofs.at.Symbol.{name as #image-reader·at}
 use Rattle.image_reader.proofs.at.Met as place-thm
-use Rattle.image_reader.proofs.load_from.Key.{name as #image-reader·load-from}
-use Rattle.image_reader.proofs.load_from as f
-use Rattle.image_reader.proofs.load_from.Statement as stated
-use Rattle.image_reader.proofs.load_from.Code as code
+use Rattle.image_reader_lent.proofs.load_from.Key.{name as #image-reader-lent·load-from}
+use Rattle.image_reader_lent.proofs.load_from as f
+use Rattle.image_reader_lent.proofs.load_from.Statement as stated
+use Rattle.image_reader_lent.proofs.load_from.Code as code
 
 abbrev stayed : Stays (f.ended .signature .params) (f.ended .kept)
 stayed = (stay-none-slice (0 ∷ []) tt (plain (λ _. u8)) yes, (stay-none (λ _. usize) yes, (gave-slice (1 ∷ []) tt (plain (λ _. u8)), (gave-slice (2 ∷ []) tt (plain (λ _. u32)), (gave-slice (3 ∷ []) tt (plain (λ _. u64)), (gave-slice (4 ∷ []) tt (plain (λ _. u8)), tt))))))
@@ -356,7 +356,7 @@ pub load-from-spec : {M : Type 1} → stated.statement M
 unfolding code.routine tablesOf
 load-from-spec 𝓤 H 𝓜 𝓖 𝓡 =
     entered 𝓤 H (tripleOf 𝓤 H (𝓖 .A) f.signature (f.spec 𝓤 H (𝓖 .A) (𝓜 .mem) (𝓡 .run)))
-    (tables 𝓤 H 𝓜 𝓡 code.env .C) (tables 𝓤 H 𝓜 𝓡 code.env .Λ) #image-reader·load-from code.function (code.unfolded 𝓤 H 𝓜 𝓡)
+    (tables 𝓤 H 𝓜 𝓡 code.env .C) (tables 𝓤 H 𝓜 𝓡 code.env .Λ) #image-reader-lent·load-from code.function (code.unfolded 𝓤 H 𝓜 𝓡)
     (load-from-meets 𝓤 H (𝓖 .A) (givenOf 𝓤 H 𝓜 𝓖) (𝓜 .mem) (𝓡 .run) (tablesOf 𝓤 H 𝓜 (tables 𝓤 H 𝓜 𝓡 code.env))
     (cited 𝓤 H (New 𝓤 H (𝓖 .A) (𝓜 .mem) (𝓡 .run)) 𝓜 𝓡 code.env #image-reader·new new-def.routine code.calls-image-reader·new (new-thm.met 𝓤 H 𝓜 𝓖 𝓡))
     (cited 𝓤 H (Lend 𝓤 H (𝓖 .A) (𝓜 .mem) (𝓡 .run)) 𝓜 𝓡 code.env #image-reader·load lend-def.routine code.calls-image-reader·load (lend-thm.met 𝓤 H 𝓜 𝓖 𝓡))
