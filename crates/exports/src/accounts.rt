@@ -144,9 +144,9 @@ pub extern "C" fn ashthulgo_police_in_place(
     let step = account_lent::police_lent(account, octets, time);
     let outcome = step.outcome;
     let left = step.account;
-    let said = numbers(outcome);
+    let answer = numbers(outcome);
     *credit = left.credit;
     *last = left.last;
-    *reported = said.credit;
-    said.code
+    *reported = answer.credit;
+    answer.code
 }
