@@ -1,4 +1,5 @@
 pub mod Bench
 pub mod Bucket
+pub mod Counted
 pub mod FrameModes
 pub mod Rule

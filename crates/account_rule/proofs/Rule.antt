@@ -27,7 +27,7 @@ use Rattle.account.proofs.Step.{by-step, police-length}
 
 -- ---- the rule, case by case
 module _ (p : Terms) (past : List Reached) (n t : ℕ) where
-  step-refused : (lengthCode n ≡ 0 → ⊥) → ruleStep p past n t ≡ ruled (lengthCode n) past
+  pub step-refused : (lengthCode n ≡ 0 → ⊥) → ruleStep p past n t ≡ ruled (lengthCode n) past
   unfolding ruleStep
   step-refused h = simp (ne-eqb (lengthCode n) 0 h)
 

@@ -1,3 +1,4 @@
 pub mod Bench
 pub mod Bucket
+pub mod Counted
 pub mod Rule

@@ -34,7 +34,7 @@ use Rattle.switch.specs.Call.{State, stateOf, inUseBy, accountHeld, decided, ca
 use Rattle.demands.specs.History.{callAnswers, finalState, configIn, stateIn}
 use Rattle.demands.specs.Rule.{imageTerms, meant}
 use Rattle.demands.specs.Demand3.{MeantLimits}
-use Rattle.demands.specs.Bench.{frameImageP, calls, verdicts, caseAnswers, stateAfter, CallBenchTable}
+use Rattle.demands.specs.Bench.{frameImageP, calls, byteVerdicts, frameVerdicts, caseAnswers, stateAfter, CallBenchTable}
 use Rattle.demands.proofs.Rule.{history-verdicts}
 use Rattle.demands.proofs.Words.{loaded-fresh, loaded-config}
 use Rattle.demands.proofs.Isolation.{isolation-of-fresh-tables}
@@ -77,11 +77,11 @@ config-by account q = configFor (q .settings) account linkP
 abbrev full : State
 full = stateOf (300000 ∷ []) (0 ∷ [])
 
-computed : callAnswers (config-by accountP answerP) full (calls byteCases) ≡ verdicts byteCases
+computed : callAnswers (config-by accountP answerP) full (calls byteCases) ≡ byteVerdicts
 unfolding History.answers called routed frameCode lengthCode numberAt foundIn leading linkAt accountHeld termsAt inUseBy decided portsSound sizesSound linkSound termsGood bag added charge rate capacity byOctets charged cost accountSound creditUpTo judged judgedAt policed portCode
 computed = refl
 
-computed-frame : callAnswers (config-by accountP1 answerP) full (calls frameCases) ≡ verdicts frameCases
+computed-frame : callAnswers (config-by accountP1 answerP) full (calls frameCases) ≡ frameVerdicts
 unfolding History.answers called routed frameCode lengthCode numberAt foundIn leading linkAt accountHeld termsAt inUseBy decided portsSound sizesSound linkSound termsGood bag added charge rate capacity byOctets charged cost accountSound creditUpTo judged judgedAt policed portCode
 computed-frame = refl
 

@@ -1,34 +1,45 @@
 -- The three demands, from the claims that they gather. Assumes nothing.
-use Rattle.lists.proofs.Claims.{picked-answers}
+use Rattle.lists.proofs.Claims.{picked-answers, first-fits}
 use Rattle.codes.proofs.Claims.{code-figures}
 use Rattle.octets.proofs.Claims.{reads-back, writes-back}
-use Rattle.rows.proofs.Claims.{rows-in-use}
+use Rattle.rows.proofs.Claims.{rows-in-use, first-row-counts}
 use Rattle.fields.proofs.Claims.{field-reads-back, field-is-spelled, field-figures}
-use Rattle.frame.proofs.Claims.{length-limits, payload-length, reading-answers, reading-refused}
+use Rattle.frame.proofs.Claims.{length-limits, payload-length, reading-answers, reading-refused, frame-reads-back, frame-figures}
 use Rattle.terms.proofs.Claims.{capacity-largest, cost-largest, formulas-by-mode, terms-limits, checked-methods}
 use Rattle.account.proofs.Claims.{forwarded-step-takes-cost, refused-methods-idle, refused-step-keeps, refused-step-reports, short-step-tops-up, step-answers, step-is-top-up-and-debit, steps-apart, sound-within}
+use Rattle.account.proofs.Codes.{step-codes-in-order}
 use Rattle.account_rule.proofs.Bench.{bench-table}
 use Rattle.account_rule.proofs.Bucket.{rule-read}
+use Rattle.account_rule.proofs.Counted.{steps-reached}
 use Rattle.account_rule.proofs.Rule.{allowance-by-mode, rule-of-steps, steps-in-words}
-use Rattle.tables.proofs.Claims.{finds-first, finds-none}
-use Rattle.tables_rules.proofs.Claims.{link-accepted, link-refused, sizes-within-smax}
+use Rattle.tables.proofs.Claims.{account-reads-back, link-reads-back, row-figures, finds-first, finds-none}
+use Rattle.tables_rules.proofs.Claims.{link-sound-exactly, port-bits, numbers-rise, rows-good-exactly, link-accepted, link-refused, sizes-within-smax}
 use Rattle.image_layout.proofs.Claims.{constant-limits, image-figures}
-use Rattle.image_read.proofs.Bench.{image-p-reads}
-use Rattle.image_read.proofs.Claims.{accepted-ends, read-codes, read-field-by-field}
+use Rattle.image_field.proofs.Claims.{head-codes-in-order, next-codes-in-order, tags-in-order, fields-by-tag}
+use Rattle.image_read.proofs.Bench.{image-p-reads, case-thirteen, cut-images, faulty-images, two-faults}
+use Rattle.image_read.proofs.Claims.{accepted-ends, read-codes, read-field-by-field, read-answers}
 use Rattle.image_read.proofs.Prefix.{prefix-read}
-use Rattle.image_load.proofs.Claims.{load-codes, load-refuses, offsets-inside, refused-load-keeps, rows-beyond-kept}
+use Rattle.image_load.proofs.Claims.{load-codes, long-enough-exactly, load-refuses, offsets-inside, refused-load-keeps, rows-beyond-kept}
 use Rattle.image_load.proofs.Fresh.{fresh-holds, fresh-sound, load-accepts, load-fresh}
 use Rattle.image_load.proofs.Prefix.{prefix-load}
-use Rattle.image_write.proofs.Claims.{first-bad-account, first-bad-constant, first-bad-link, image-length, refused-write-keeps, write-accepts, write-codes, write-offsets, write-refuses, writes-image}
+use Rattle.image_write.proofs.Claims.{counts-exactly, first-bad-account, first-bad-constant, first-bad-link, image-length, refused-write-keeps, write-accepts, write-codes, write-offsets, write-refuses, writes-image}
 use Rattle.image_round_trip.proofs.RoundTrips.{accepted-is-image, image-is-accepted, read-write, write-read}
-use Rattle.switch.proofs.Claims.{call-answers, call-effects, codes-in-order, length-alone, ports-beyond, refused-call-keeps, rows-beyond-unread}
+use Rattle.switch.proofs.Claims.{at-the-count, call-answers, call-effects, codes-in-order, in-use-exactly, length-alone, ports-beyond, refused-call-keeps, rows-beyond-unread}
 use Rattle.switch_verdict.proofs.Claims.{verdicts-apart}
+use Rattle.replay_words.proofs.Claims.{digits-read-back, no-leading-zero, digit-figures, word-figures}
+use Rattle.replay_text.proofs.Claims.{lines-fit, lines-by-verdict, sheet-lines, other-lines}
+use Rattle.replay_log.proofs.Settled.{next-settled, next-moved, never-more, frame-inside}
+use Rattle.replay_log.proofs.Claims.{record-reads-back, no-whole-record, record-figures}
+use Rattle.replay_answer.proofs.Claims.{long-frame-skipped, record-answered, replied-parts}
 use Rattle.demands.proofs.Bench.{call-bench-table, meant-limits}
+use Rattle.demands.proofs.Counted.{reached-by-answers, times-never-fall}
 use Rattle.demands.proofs.Isolation.{isolation, isolation-of-fresh-tables}
 use Rattle.demands.proofs.Rule.{rule-of-fresh-tables}
 use Rattle.demands.proofs.Words.{others-in-words, rule-in-words, rule-of-history, ten-never}
 use Rattle.demands.specs.Demand1.{Answers, RefusalsKeep, Demand1}
-use Rattle.demands.specs.Demand2.{RoundTrips, Verdicts, Images, Figures, Demand2}
+use Rattle.demands.specs.Figures.{Formats, Values, Figures}
+use Rattle.demands.specs.Replay.{Replay}
+use Rattle.demands.specs.Demand2.{RoundTrips, Verdicts, Images, Demand2}
 use Rattle.demands.specs.Demand3.{Demand3}
 
 pub answers : Answers
@@ -78,9 +89,12 @@ pub verdicts : Verdicts
 verdicts =
     record {
       codes-in-order = codes-in-order;
+      step-codes-in-order = step-codes-in-order;
       effects = call-effects;
       length-alone = length-alone;
       ports-beyond = ports-beyond;
+      in-use = in-use-exactly;
+      at-the-count = at-the-count;
       rows-beyond = rows-beyond-unread;
       finds-first = finds-first;
       finds-none = finds-none;
@@ -92,8 +106,14 @@ verdicts =
 pub images : Images
 images =
     record {
+      head-codes = head-codes-in-order;
+      next-codes = next-codes-in-order;
+      tags = tags-in-order;
+      fields-by-tag = fields-by-tag;
+      answers = read-answers;
       accepted-ends = accepted-ends;
       field-by-field = read-field-by-field;
+      long-enough = long-enough-exactly;
       load-accepts = load-accepts;
       load-refuses = load-refuses;
       load-fresh = load-fresh;
@@ -102,6 +122,7 @@ images =
       rows-beyond = rows-beyond-kept;
       prefix-read = prefix-read;
       prefix-load = prefix-load;
+      counts = counts-exactly;
       write-accepts = write-accepts;
       write-refuses = write-refuses;
       write-offsets = write-offsets;
@@ -112,27 +133,82 @@ images =
       first-bad-link = first-bad-link;
     }
 
-pub figures : Figures
-figures =
+pub formats : Formats
+formats =
     record {
-      codes = code-figures;
-      lengths = length-limits;
-      payload = payload-length;
+      octets-read = reads-back;
+      octets-written = writes-back;
+      fields-read = field-reads-back;
+      fields-spelled = field-is-spelled;
+      fields = field-figures;
+      frames-read = frame-reads-back;
+      frame = frame-figures;
+      accounts-read = account-reads-back;
+      links-read = link-reads-back;
+      rows = row-figures;
+    }
+
+pub values : Values
+values =
+    record {
       terms = terms-limits;
       checked = checked-methods;
       sound = sound-within;
       formulas = formulas-by-mode;
       capacity = capacity-largest;
       cost = cost-largest;
+      links = link-sound-exactly;
+      port-bits = port-bits;
+      numbers-rise = numbers-rise;
+      rows-good = rows-good-exactly;
       sizes = sizes-within-smax;
-      rows-in-use = rows-in-use;
       links-refused = link-refused;
       links-accepted = link-accepted;
+    }
+
+pub figures : Figures
+figures =
+    record {
+      formats = formats;
+      values = values;
+      codes = code-figures;
+      first-fits = first-fits;
+      lengths = length-limits;
+      payload = payload-length;
+      rows-in-use = rows-in-use;
+      first-row = first-row-counts;
       image = image-figures;
-      image-p = image-p-reads;
       constants = constant-limits;
+      image-p = image-p-reads;
+      case-thirteen = case-thirteen;
+      cut-images = cut-images;
+      faulty-images = faulty-images;
+      two-faults = two-faults;
       steps = bench-table;
       calls = call-bench-table;
+    }
+
+pub replay : Replay
+replay =
+    record {
+      record-reads-back = record-reads-back;
+      no-whole-record = no-whole-record;
+      record-figures = record-figures;
+      frame-inside = frame-inside;
+      next-settled = next-settled;
+      next-moved = next-moved;
+      never-more = never-more;
+      record-answered = record-answered;
+      long-frame-skipped = long-frame-skipped;
+      replied-parts = replied-parts;
+      lines-by-verdict = lines-by-verdict;
+      sheet-lines = sheet-lines;
+      other-lines = other-lines;
+      lines-fit = lines-fit;
+      digits-read-back = digits-read-back;
+      no-leading-zero = no-leading-zero;
+      digit-figures = digit-figures;
+      word-figures = word-figures;
     }
 
 pub demand-2 : Demand2
@@ -142,11 +218,7 @@ demand-2 =
       verdicts = verdicts;
       images = images;
       figures = figures;
-      octets-read = reads-back;
-      octets-written = writes-back;
-      fields-read = field-reads-back;
-      fields-spelled = field-is-spelled;
-      fields-figures = field-figures;
+      replay = replay;
     }
 
 pub demand-3 : Demand3
@@ -157,6 +229,8 @@ demand-3 =
       in-words = rule-in-words;
       others-in-words = others-in-words;
       ten-never = ten-never;
+      reached-by-answers = reached-by-answers;
+      times-never-fall = times-never-fall;
       meant-limits = meant-limits;
       isolation = isolation;
       isolation-of-fresh-tables = isolation-of-fresh-tables;
@@ -165,4 +239,5 @@ demand-3 =
       allowance-by-mode = allowance-by-mode;
       rule-of-steps = rule-of-steps;
       steps-in-words = steps-in-words;
+      steps-reached = steps-reached;
     }

@@ -1,4 +1,5 @@
 pub mod Bench
+pub mod Counted
 pub mod Demands
 pub mod Filter
 pub mod Isolation

@@ -56,7 +56,7 @@ module _ (s : List ℕ) (f : Call) (a : ℕ) where
   pub reached-same : (past : List Call) → passing s a f ≡ false → reachedIn s (f ∷ past) a ≡ reachedIn s past a
   reached-same past e = reached-next past ∙ simp e
 
-  reached-more : (past : List Call) → passing s a f ≡ true → lengthCode (length (f .octets)) ≡ 0
+  pub reached-more : (past : List Call) → passing s a f ≡ true → lengthCode (length (f .octets)) ≡ 0
       → reachedIn s (f ∷ past) a ≡ ruleArrived (imageTerms s a) (reachedIn s past a) (length (f .octets)) (f .time) .past
   reached-more past e z =
       reached-next past ∙ simp (e, step-arrived (imageTerms s a) (reachedIn s past a) (length (f .octets)) (f .time) z)
@@ -252,7 +252,7 @@ module _ (s : List ℕ) (g : Config) (t : Tables s g) (past : List Call) (q : St
       (λ z j e h. subst (Ruled s g past f) (sym (call-link s g t q f z j e h)) (over j h z e))
 
 -- ---- from tables just loaded
-reached-none : (s : List ℕ) (a : ℕ) → reachedIn s [] a ≡ []
+pub reached-none : (s : List ℕ) (a : ℕ) → reachedIn s [] a ≡ []
 unfolding reachedIn only leftBy
 reached-none s a = refl
 

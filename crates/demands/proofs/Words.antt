@@ -52,7 +52,7 @@ next-call s r fresh before f =
     one-call s (configIn s r) (tables s r fresh) (reverse before) (finalState (configIn s r) (stateIn r) before)
     (history-stands s r fresh before) f
 
-code-arrived : (s : List ℕ) (past : List Call) (f : Call) → filterCode s f ≡ 0
+pub code-arrived : (s : List ℕ) (past : List Call) (f : Call) → filterCode s f ≡ 0
     → ruleCode s past f ≡ ruleArrived (imageTerms s (accountNamed s (linkRow s f))) (reachedIn s past (accountNamed s (linkRow s f))) (length (f .octets)) (f .time) .code
 unfolding ruleCode
 code-arrived s past f z = simp (eq-eqb _ _ z)
@@ -70,7 +70,7 @@ arrived-late : (p : Terms) (past : List Reached) (n t : ℕ) → t < lastTime pa
 unfolding ruleArrived
 arrived-late p past n t h = simp (lt-ltb _ _ h)
 
-code-filtered : (s : List ℕ) (past : List Call) (f : Call) → (filterCode s f ≡ 0 → ⊥) → ruleCode s past f ≡ filterCode s f
+pub code-filtered : (s : List ℕ) (past : List Call) (f : Call) → (filterCode s f ≡ 0 → ⊥) → ruleCode s past f ≡ filterCode s f
 unfolding ruleCode
 code-filtered s past f h = simp (ne-eqb _ _ h)
 
@@ -82,7 +82,7 @@ others-in-words s r fresh before f =
     )
 
 -- ---- 10 never
-filter-code-high : (s : List ℕ) (f : Call) → filterCode s f ≤ 7
+pub filter-code-high : (s : List ℕ) (f : Call) → filterCode s f ≤ 7
 filter-code-high s f =
     by-filter s f
     (λ m. let k = frame-code-high (readImage s .settings .constant) (f .octets) in let e = filter-frame s f m in omega arith)

@@ -1,10 +1,10 @@
 -- The starred cases of the bench sheet (document 01, "Bench sheet") as one statement, from the octets of image P through
--- loading and the frame call. The cases, with octets, time, code and credit, are those of account_rule's table. The cost of
--- case 3, the sums of case 4 and the top-up of case 10 stand there too, for the account values that image P is shown here to
--- have.
+-- loading and the frame call. The cases' octets and times are those of account_rule's table. The cost of case 3, the sums of
+-- case 4 and the top-up of case 10 stand there too, for the account values that image P is shown here to have.
 use Prim.Native.Nat.{ℕ, _-_, _^_}
 use mathlib.Core.Bool.{true}
-use mathlib.Core.List.{List, _∷_, map}
+use mathlib.Core.List.{List, [], _∷_, map}
+use mathlib.Core.Option.{none, some}
 use mathlib.Core.Path.{_≡_}
 use lib.ListN.{getD, set, replicate}
 use Rattle.terms.specs.Terms.{byteMode, frameMode}
@@ -13,7 +13,7 @@ use Rattle.image_read.specs.Bench.{imageP, answerP}
 use Rattle.image_load.specs.Loading.{longEnough, loading}
 use Rattle.image_fill.specs.Filling.{Runs}
 use Rattle.image_round_trip.specs.RoundTrips.{loadedTables}
-use Rattle.switch_verdict.specs.Verdict.{Report, withMask}
+use Rattle.switch_verdict.specs.Verdict.{Report, report}
 use Rattle.switch.specs.Call.{State, Call, callOf}
 use Rattle.demands.specs.History.{callAnswers, finalState, stateIn}
 use Rattle.demands.specs.Rule.{imageTerms}
@@ -29,9 +29,22 @@ sent n t = callOf (3 ∷ 0 ∷ 0 ∷ 0 ∷ 0 ∷ 7 ∷ replicate (n - 6) 0) 2 t
 abbrev pub calls : List Case → List Call
 calls = map (λ c. sent (c .step .octets) (c .step .time))
 
--- what a case is to report, with link 7's mask, port 3, where it is forwarded
-abbrev pub verdicts : List Case → List Report
-verdicts = map (λ c. withMask 8 (c .reports))
+-- what the cases report, written out: a forwarded frame link 7's mask, port 3, and the credit left; a short or late one the credit
+abbrev pub byteVerdicts : List Report
+byteVerdicts =
+    report 0 (some 8) (some 100000)
+    ∷ report 9 none (some 199800)
+    ∷ report 0 (some 8) (some 0)
+    ∷ report 8 none (some 0)
+    ∷ report 9 none (some 199800)
+    ∷ report 0 (some 8) (some 0)
+    ∷ report 9 none (some 0)
+    ∷ report 0 (some 8) (some 0)
+    ∷ report 0 (some 8) (some 100000)
+    ∷ []
+
+abbrev pub frameVerdicts : List Report
+frameVerdicts = report 0 (some 8) (some 100000) ∷ []
 
 -- the answers of these cases from an image loaded into runs
 abbrev pub caseAnswers : List ℕ → Runs → List Case → List Report
@@ -50,7 +63,7 @@ CallBenchTable =
     × (imageTerms imageP 0 ≡ termsP byteMode)
     × (imageTerms frameImageP 0 ≡ termsP frameMode)
     × (getD (loading imageP r .runs .credits) 0 0 ≡ 300000)
-    × (caseAnswers imageP r byteCases ≡ verdicts byteCases)
+    × (caseAnswers imageP r byteCases ≡ byteVerdicts)
     × (getD (stateAfter imageP r byteCases .credits) 0 0 ≡ 100000)
     × (getD (stateAfter imageP r byteCases .lasts) 0 0 ≡ 2 ^ 64 - 1)
-    × (caseAnswers frameImageP r frameCases ≡ verdicts frameCases)
+    × (caseAnswers frameImageP r frameCases ≡ frameVerdicts)

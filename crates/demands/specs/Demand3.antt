@@ -10,6 +10,7 @@ use Rattle.lists.specs.Claims.{PickedAnswers}
 use Rattle.lists.specs.Lists.{only, answersTo}
 use Rattle.terms.specs.Terms.{cost}
 use Rattle.account_rule.specs.Bucket.{lastTime, FromEach, RuleRead}
+use Rattle.account_rule.specs.Counted.{StepsReached}
 use Rattle.account_rule.specs.Rule.{allowance, AllowanceByMode, RuleOfSteps, StepsInWords}
 use Rattle.tables.specs.Rows.{Config}
 use Rattle.image_read.specs.Read.{readImage}
@@ -19,6 +20,7 @@ use Rattle.image_fill.specs.Filling.{Runs}
 use Rattle.image_load.specs.Fresh.{Fresh}
 use Rattle.image_round_trip.specs.RoundTrips.{loadedTables}
 use Rattle.switch.specs.Call.{State, Call, callOf, called}
+use Rattle.demands.specs.Counted.{ReachedByAnswers, TimesNeverFall}
 use Rattle.demands.specs.History.{callAnswers, finalState, callCodes, configIn, stateIn}
 use Rattle.demands.specs.Rule.{imageTerms, linkRow, accountNamed, filterCode, meant, reachedIn, ruleCodes}
 
@@ -113,6 +115,8 @@ pub record Demand3 : Type 0 where
   pub in-words : RuleInWords
   pub others-in-words : OthersInWords
   pub ten-never : TenNever
+  pub reached-by-answers : ReachedByAnswers
+  pub times-never-fall : TimesNeverFall
   pub meant-limits : MeantLimits
   pub isolation : Isolation
   pub isolation-of-fresh-tables : IsolationOfFreshTables
@@ -121,3 +125,4 @@ pub record Demand3 : Type 0 where
   pub allowance-by-mode : AllowanceByMode
   pub rule-of-steps : RuleOfSteps
   pub steps-in-words : StepsInWords
+  pub steps-reached : StepsReached

@@ -1,6 +1,9 @@
 pub mod Bench
+pub mod Counted
 pub mod Demand1
 pub mod Demand2
 pub mod Demand3
+pub mod Figures
 pub mod History
+pub mod Replay
 pub mod Rule

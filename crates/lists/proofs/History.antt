@@ -1,8 +1,9 @@
 -- Laws of histories. Assumes nothing.
 use mathlib.Core.Bool.{Bool, true, false}
-use mathlib.Core.List.{List, [], _∷_, _++_, map, map-id, reverse, reverseAux, List·Memᴰ, List·Memᴰ·head, List·Memᴰ·tail, List·Memᴰ·not-nil, List·Memᴰ·cases-cons}
+use mathlib.Core.List.{List, [], _∷_, _++_, map, map-id, zip, zipWith, reverse, reverseAux, List·Memᴰ, List·Memᴰ·head, List·Memᴰ·tail, List·Memᴰ·not-nil, List·Memᴰ·cases-cons}
 use mathlib.Core.Logic.{⊎-elim}
 use mathlib.Core.Path.{_≡_, refl, sym, ap, ap₂, _∙_, subst}
+use Rattle.lists.specs.Choice.{if_then_else_}
 use Rattle.lists.specs.Lists.{only, answersTo}
 use Rattle.lists.specs.History.{Machine, answers, final, leftBy, byCalls, byAnswers}
 use Rattle.lists.proofs.Tests.{split}
@@ -101,3 +102,20 @@ alike {C = C} {m′ = m′} {n = n} {R′ = R′} h h′ k k′ e t s r s′ r�
     let z = simulated-picked h k t s r in
     let z′ = simulated-picked h′ k′ t s′ r′ in
     (z .0 ∙ ap (answers n t) e ∙ sym (z′ .0), z .1, subst (λ (g : List C). R′ (final n t g) (final m′ s′ h′)) (sym e) (z′ .1))
+
+-- ---- what is collected call by call, from the calls with their answers
+module _ {S C A R : Type 0} (m : Machine S C A) (collect : S → List R) (pick : C × A → Bool) (count : C × A → R)
+    (each : (s : S) (c : C)
+    → collect (m .leaves s c) ≡ (if pick (c, m .says s c) then count (c, m .says s c) ∷ collect s else collect s)) where
+  pub collected : (h : List C) (s : S) → collect (final m s h) ≡ reverseAux (map count (only pick (zip h (answers m s h)))) (collect s)
+  unfolding answers final only zip zipWith
+  collected [] s = refl
+  collected (c ∷ h) s =
+      let after : List C → List R = λ k. map count (only pick (zip k (answers m (m .leaves s c) k))) in
+      split (pick (c, m .says s c))
+      (λ e.
+      let q : collect (m .leaves s c) ≡ count (c, m .says s c) ∷ collect s = each s c ∙ simp e in
+      collected h (m .leaves s c) ∙ ap (reverseAux (after h)) q ∙ simp e)
+      (λ e.
+      let q : collect (m .leaves s c) ≡ collect s = each s c ∙ simp e in
+      collected h (m .leaves s c) ∙ ap (reverseAux (after h)) q ∙ simp e)

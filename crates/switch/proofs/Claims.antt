@@ -229,7 +229,7 @@ module _ (g : Config) (s : State) (f : Call) where
   stopped-effects : (c : ℕ) → (c ≡ 0 → ⊥) → c ≤ 4 → (d : Found) → RowEffects g s f d (refusedWith c s)
   stopped-effects c z h Nowhere = (refl, refl, z, h)
   stopped-effects c z h (At j) =
-      refused-effects (accountsInUse g s) s f (linkIn (linkTable (g .links)) j) (accountHeld (g .accounts) s (linkIn (linkTable (g .links)) j .account)) c (refusedWith c s) refl refl z
+      refused-effects _ s f (linkIn (linkTable (g .links)) j) (accountHeld (g .accounts) s (linkIn (linkTable (g .links)) j .account)) c (refusedWith c s) refl refl z
       (λ e. omega arith) (λ e. omega arith)
 
   link-effects : (l : Link) → lengthCode (length (f .octets)) ≡ 0 → Effects (accountsInUse g s) s f l (accountHeld (g .accounts) s (l .account)) (byLink g s f l)
