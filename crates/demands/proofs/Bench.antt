@@ -2,7 +2,8 @@
 -- nothing.
 use Prim.Native.Nat.{ℕ, _-_, _^_, _<_}
 use mathlib.Core.Bool.{true}
-use mathlib.Core.List.{List, [], _∷_}
+use mathlib.Core.List.{List, [], _∷_, map, headD, map-congr-left}
+use mathlib.Core.Option.{none}
 use mathlib.Core.Path.{_≡_, refl, sym, ap, _∙_}
 use lib.ListN.{getD, set}
 use lib.Dec.{lit<}
@@ -30,11 +31,12 @@ use Rattle.image_load.proofs.Fresh.{load-accepts, fresh-holds, fresh-sound}
 use Rattle.image_read.proofs.Bench.{image-p-reads}
 use Rattle.image_round_trip.specs.RoundTrips.{loadedTables}
 use Rattle.filter.specs.Filter.{frameCode, portCode, routed}
-use Rattle.switch.specs.Call.{State, stateOf, inUseBy, accountHeld, decided, called}
+use Rattle.switch_verdict.specs.Verdict.{Report, report}
+use Rattle.switch.specs.Call.{State, stateOf, Call, inUseBy, accountHeld, decided, called}
 use Rattle.demands.specs.History.{callAnswers, finalState, configIn, stateIn}
 use Rattle.demands.specs.Rule.{imageTerms, meant}
 use Rattle.demands.specs.Demand3.{MeantLimits}
-use Rattle.demands.specs.Bench.{frameImageP, calls, byteVerdicts, frameVerdicts, caseAnswers, stateAfter, CallBenchTable}
+use Rattle.demands.specs.Bench.{frameImageP, sent, calls, byteVerdicts, frameVerdicts, stateAfter, CallBenchTable, CaseTwelve}
 use Rattle.demands.proofs.Rule.{history-verdicts}
 use Rattle.demands.proofs.Words.{loaded-fresh, loaded-config}
 use Rattle.demands.proofs.Isolation.{isolation-of-fresh-tables}
@@ -94,13 +96,13 @@ module _ (s account : List ℕ) (e : readImage s ≡ answerP) (fresh : Fresh s (
   accepted = ap (λ (q : ImageAnswer). q .code) (answer ∙ e)
 
   -- two fresh starts of one image answer alike
-  from-any : (cases : List Case) → caseAnswers s r cases ≡ callAnswers (config-by account answerP) full (calls cases)
-  from-any cases =
+  from-any : (h : List Call) → callAnswers (loadedTables s r) (stateIn (loading s r .runs)) h ≡ callAnswers (config-by account answerP) full h
+  from-any h =
       let f = loaded-fresh s r accepted in
-      ap (λ (g : Config). callAnswers g (stateIn (loading s r .runs)) (calls cases)) (loaded-config s r accepted)
-      ∙ history-verdicts s _ f (calls cases)
-      ∙ sym (history-verdicts s (runs-of account) fresh (calls cases))
-      ∙ ap (λ (q : ImageAnswer). callAnswers (config-by account q) full (calls cases)) e
+      ap (λ (g : Config). callAnswers g (stateIn (loading s r .runs)) h) (loaded-config s r accepted)
+      ∙ history-verdicts s _ f h
+      ∙ sym (history-verdicts s (runs-of account) fresh h)
+      ∙ ap (λ (q : ImageAnswer). callAnswers (config-by account q) full h) e
 
   -- and leave the same
   left-any : (cases : List Case)
@@ -139,12 +141,27 @@ call-bench-table r long =
       terms-p .0,
       terms-p .1,
       fresh-sound imageP (loading imageP r .runs) f .full 0 one ∙ ap capacity (fresh-holds imageP (loading imageP r .runs) f .accounts 0 one) ∙ capacity-p,
-      from-any imageP accountP e fresh-p r long byteCases ∙ computed,
+      from-any imageP accountP e fresh-p r long (calls byteCases) ∙ computed,
       left-any imageP accountP e fresh-p r long byteCases .0 ∙ ap (λ (q : State). getD (q .credits) 0 0) computed-left,
       left-any imageP accountP e fresh-p r long byteCases .1 ∙ ap (λ (q : State). getD (q .lasts) 0 0) computed-left,
-      from-any frameImageP accountP1 frame-p-reads fresh-frame-p r long frameCases ∙ computed-frame,
+      from-any frameImageP accountP1 frame-p-reads fresh-frame-p r long (calls frameCases) ∙ computed-frame,
     )
 
 pub meant-limits : MeantLimits
 unfolding meant foundIn numberAt termsGood leading termsAt linkAt portsSound sizesSound linkSound accountGood numberRises linkGood fieldOffset constantGood fieldCode headGood headCode inOrder dataOctets isFull valuesGood nextCode goodField goodAccounts goodLinks readEnd readImage
 meant-limits = (refl, refl, refl)
+
+-- case 12: the one call of a list, from any load as from these tables
+abbrev code-of : Config → State → ℕ → ℕ
+code-of g t n = called g t (sent n 0) .says .code
+
+sizes-computed : map (code-of (config-by accountP answerP) full) (63 ∷ 64 ∷ 200 ∷ 201 ∷ 1518 ∷ 1519 ∷ []) ≡ 1 ∷ 0 ∷ 0 ∷ 7 ∷ 7 ∷ 2 ∷ []
+unfolding called routed frameCode lengthCode numberAt foundIn leading linkAt accountHeld termsAt inUseBy decided portsSound sizesSound linkSound termsGood bag added charge rate capacity byOctets charged cost accountSound creditUpTo judged judgedAt policed portCode
+sizes-computed = refl
+
+pub case-twelve : CaseTwelve
+unfolding History.answers headD
+case-twelve r long =
+    let any : (n : ℕ) → code-of (loadedTables imageP r) (stateIn (loading imageP r .runs)) n ≡ code-of (config-by accountP answerP) full n =
+    λ n. ap (λ (ws : List Report). headD ws (report 0 none none) .code) (from-any imageP accountP (image-p-reads .0) fresh-p r long (sent n 0 ∷ [])) in
+    map-congr-left {l = 63 ∷ 64 ∷ 200 ∷ 201 ∷ 1518 ∷ 1519 ∷ []} (λ n _. any n) ∙ sizes-computed

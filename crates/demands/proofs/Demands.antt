@@ -31,7 +31,7 @@ use Rattle.replay_text.proofs.Claims.{lines-fit, lines-by-verdict, sheet-lines,
 use Rattle.replay_log.proofs.Settled.{next-settled, next-moved, never-more, frame-inside}
 use Rattle.replay_log.proofs.Claims.{record-reads-back, no-whole-record, record-figures}
 use Rattle.replay_answer.proofs.Claims.{long-frame-skipped, record-answered, replied-parts}
-use Rattle.demands.proofs.Bench.{call-bench-table, meant-limits}
+use Rattle.demands.proofs.Bench.{call-bench-table, case-twelve, meant-limits}
 use Rattle.demands.proofs.Counted.{reached-by-answers, times-never-fall}
 use Rattle.demands.proofs.Isolation.{isolation, isolation-of-fresh-tables}
 use Rattle.demands.proofs.Rule.{rule-of-fresh-tables}
@@ -186,6 +186,7 @@ figures =
       two-faults = two-faults;
       steps = bench-table;
       calls = call-bench-table;
+      case-twelve = case-twelve;
     }
 
 pub replay : Replay

@@ -14,7 +14,7 @@ use Rattle.image_load.specs.Loading.{longEnough, loading}
 use Rattle.image_fill.specs.Filling.{Runs}
 use Rattle.image_round_trip.specs.RoundTrips.{loadedTables}
 use Rattle.switch_verdict.specs.Verdict.{Report, report}
-use Rattle.switch.specs.Call.{State, Call, callOf}
+use Rattle.switch.specs.Call.{State, Call, callOf, called}
 use Rattle.demands.specs.History.{callAnswers, finalState, stateIn}
 use Rattle.demands.specs.Rule.{imageTerms}
 
@@ -67,3 +67,11 @@ CallBenchTable =
     × (getD (stateAfter imageP r byteCases .credits) 0 0 ≡ 100000)
     × (getD (stateAfter imageP r byteCases .lasts) 0 0 ≡ 2 ^ 64 - 1)
     × (caseAnswers frameImageP r frameCases ≡ frameVerdicts)
+
+-- case 12: a frame of 63, 64, 200, 201, 1,518 and 1,519 octets on link 7, each on tables just loaded
+abbrev pub CaseTwelve : Type 0
+CaseTwelve =
+    (r : Runs) → longEnough 1 1 r ≡ true
+    → map (λ n. called (loadedTables imageP r) (stateIn (loading imageP r .runs)) (sent n 0) .says .code)
+    (63 ∷ 64 ∷ 200 ∷ 201 ∷ 1518 ∷ 1519 ∷ [])
+    ≡ 1 ∷ 0 ∷ 0 ∷ 7 ∷ 7 ∷ 2 ∷ []

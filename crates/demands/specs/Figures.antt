@@ -14,7 +14,7 @@ use Rattle.tables.specs.Claims.{AccountReadsBack, LinkReadsBack, RowFigures}
 use Rattle.tables_rules.specs.Claims.{LinkSoundExactly, PortBits, NumbersRise, RowsGoodExactly, SizesWithinSmax, LinkRefused, LinkAccepted}
 use Rattle.image_layout.specs.Claims.{ImageFigures, ConstantLimits}
 use Rattle.image_read.specs.Bench.{ImagePReads, CaseThirteen, CutImages, FaultyImages, TwoFaults}
-use Rattle.demands.specs.Bench.{CallBenchTable}
+use Rattle.demands.specs.Bench.{CallBenchTable, CaseTwelve}
 
 -- numbers in octets ("What the box covers"), tagged fields ("The configuration image"; "The replay program"), frames ("The frame"),
 -- rows of accounts and links: each spelled from its values and read back, and in figures
@@ -65,3 +65,4 @@ pub record Figures : Type 0 where
   pub two-faults : TwoFaults
   pub steps : BenchTable
   pub calls : CallBenchTable
+  pub case-twelve : CaseTwelve

@@ -6,7 +6,8 @@ use mathlib.Core.Logic.{_↔_}
 use mathlib.Core.Option.{none, some}
 use mathlib.Core.Path.{_≡_}
 use lib.ListN.{length}
-use Rattle.octets.specs.Numbers.{numberAt, octetsOf}
+use Rattle.octets.specs.Numbers.{numberAt}
+use Rattle.octets.specs.Spelled.{Part, part, spelled, Fit}
 use Rattle.rows.specs.declared.Found.the-variants.{At, Nowhere}
 use Rattle.receive_sequence.specs.Sequence.{numberOf}
 use Rattle.receive_answer.specs.Answer.{deliveryOf}
@@ -24,13 +25,15 @@ SkewRowFigures =
     (map (skewIn threeRows) (0 ∷ 1 ∷ 2 ∷ []) ≡ 50595078 ∷ 151653132 ∷ 219025168 ∷ [])
     × (map (rowFound threeRows 3081) (258 ∷ 1800 ∷ 515 ∷ 3 ∷ []) ≡ At 0 ∷ At 1 ∷ Nowhere ∷ Nowhere ∷ [])
 
--- any number in 2 octets and any SkewMax in 4 after it, as row j, read back
+-- row j spelled from any values reads back as these, whatever stands before and after it: number (2), SkewMax (4)
+abbrev pub skewParts : ℕ → ℕ → List Part
+skewParts number skew = part 2 number ∷ part 4 skew ∷ []
+
 abbrev pub SkewRowReads : Type 0
 SkewRowReads =
-    (number skew : ℕ) → number < 65536 → skew < 4294967296
-    → (j : ℕ) (before after : List ℕ) → length before ≡ 6 * j
-    → (numberAt 2 (before ++ octetsOf 2 number ++ octetsOf 4 skew ++ after) (6 * j) ≡ number)
-    × (skewIn (before ++ octetsOf 2 number ++ octetsOf 4 skew ++ after) j ≡ skew)
+    (number skew j : ℕ) (before after : List ℕ) → Fit (skewParts number skew) → length before ≡ 6 * j
+    → (numberAt 2 (before ++ spelled (skewParts number skew) ++ after) (6 * j) ≡ number)
+    × (skewIn (before ++ spelled (skewParts number skew) ++ after) j ≡ skew)
 
 -- ---- rows in use: row j exactly where its 6 octets and the 1,027 words of its memory are lent
 pub record RowsInUseExactly : Type 0 where

@@ -1,11 +1,11 @@
 -- What holds of the frame call for any tables, by cases of its definition. Assumes nothing.
-use Prim.Native.Nat.{ℕ, suc, _+_, _-_, _*_, _/_, _≤_, _<_}
+use Prim.Native.Nat.{ℕ, _-_, _≤_, _<_}
 use mathlib.Core.Bool.{Bool, true, false, not, _&&_, false≢true}
 use mathlib.Core.List.{List, [], _∷_}
 use mathlib.Core.Logic.{_⊎_, inl, inr}
 use mathlib.Core.Option.{none}
 use mathlib.Core.Path.{_≡_, refl, sym, ap, _∙_, subst}
-use native.Mathlib.Nat.{le-trans, mul-comm, div-mul-le-self, le-div-iff-mul-le}
+use native.Mathlib.Nat.{le-trans}
 use native.Mathlib.Omega.{arith}
 use lib.ListN.{length}
 use lib.Dec.{ltb, eqb}
@@ -189,14 +189,7 @@ codes-in-order g s f = in-order g s f
 -- ---- accounts in use: from their definition alone
 pub in-use-exactly : InUseExactly
 unfolding inUseBy
-in-use-exactly g s i =
-    let rows : ℕ = length (g .accounts) / 6 in
-    let q : 6 * rows ≤ length (g .accounts) = rw (mul-comm 6 rows) (div-mul-le-self (length (g .accounts)) 6) in (
-      λ h. (omega arith, omega arith, omega arith, omega arith),
-      λ h.
-          let k : i < rows = le-div-iff-mul-le {k = 6} {x = suc i} {y = length (g .accounts)} (omega arith) .1 (omega arith) in
-          omega arith,
-    )
+in-use-exactly g s i = (λ h. (omega arith, omega arith, omega arith, omega arith), λ h. omega (arith, h .0, h .1, h .2, h .3))
 
 pub at-the-count : AtTheCount
 at-the-count g s f j z q h =
