@@ -1,5 +1,5 @@
 -- Laws of the frame call, case by case as the code goes. Assumes nothing.
-use Prim.Native.Nat.{ℕ, _+_, _-_, _*_, _/_, _≤_, _<_, min}
+use Prim.Native.Nat.{ℕ, _+_, _-_, _*_, _/_, _≤_, _<_}
 use mathlib.Core.Bool.{Bool, true, false, not, _&&_}
 use mathlib.Core.List.{List}
 use mathlib.Core.Path.{_≡_, refl, sym, ap, _∙_}
@@ -30,10 +30,6 @@ use Rattle.switch_verdict.specs.Verdict.{Report, withMask}
 use Rattle.filter.specs.Filter.{frameCode, portCode, routeTo, routed}
 use Rattle.switch.specs.Call.{State, stateOf, Call, After, inUseBy, accountsInUse, accountHeld, Decided, kept, stepOn, decided, stored, refusedWith, settled, called}
 use Rattle.filter.proofs.Filter.{frame-zero, route-stopped, route-row}
-
-pub in-use-by : (n a c t q r u : ℕ) → q ≡ min c t → r ≡ min (a / accountOctets) q → u ≡ min n r → u ≡ inUseBy n a c t
-unfolding inUseBy
-in-use-by n a c t q r u e f g = simp (g, f, e)
 
 -- an account in use is below both runs' lengths, and its row is there
 module _ (n a c t u i : ℕ) (e : u ≡ inUseBy n a c t) (h : i < u) where

@@ -1,6 +1,6 @@
 -- `accounts_in_use`: the least of four. Assumes nothing.
-use Rattle.switch.proofs.Call.{in-use-by}
 use borrow.Author.Needs.{needs}
+use Rattle.switch.specs.Call.{inUseBy}
 use Rattle.switch.proofs.accounts_in_use.Statement.{statement}
 use Rattle.switch.proofs.accounts_in_use.Tie as tie
 
@@ -14,7 +14,8 @@ least-requires-3 : tie.Need-least-requires-3
 least-requires-3 c κs = search needs
 
 returns : tie.Need-returns
-returns c = search in-use-by
+unfolding inUseBy
+returns c = cc
 
 pub accounts-in-use-spec : {M : Type 1} → statement M
 accounts-in-use-spec = tie.close (tie.spec least-requires least-requires-2 least-requires-3 returns)
