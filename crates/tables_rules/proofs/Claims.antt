@@ -1,12 +1,11 @@
 -- The value rules exactly, from their definitions alone, and at both sides of their bounds. Assumes nothing.
-use Prim.Native.Nat.{ℕ, suc, _-_, _/_, _%_, _^_}
-use mathlib.Core.Bool.{Bool, true, not, _&&_}
-use mathlib.Core.Path.{_≡_, refl, sym, ap, _∙_}
+use Prim.Native.Nat.{suc, _-_, _/_, _%_, _^_}
+use mathlib.Core.Bool.{Bool, false, not, _&&_}
+use mathlib.Core.Path.{_≡_, refl}
 use native.Mathlib.Omega.{arith}
 use lib.Dec.{ltb, leb, eqb}
 use borrow.Author.Tests.{ltb-true, lt-ltb, leb-true, le-leb, eqb-true, eqb-false, eq-eqb, ne-eqb, not-true}
 use Rattle.lists.proofs.Tests.{both}
-use Rattle.rows.specs.Rows.{Rows}
 use Rattle.tables.specs.Rows.{accountIn, linkIn}
 use Rattle.tables_rules.specs.Rules.{portsSound, sizesSound, linkSound, accountGood, linkRowSound, numberRises, linkGood}
 use Rattle.tables_rules.specs.Claims.{LinkSoundExactly, PortBits, NumbersRise, RowsGoodExactly, SizesWithinSmax, LinkRefused, LinkAccepted}
@@ -50,21 +49,14 @@ pub port-bits : PortBits
 unfolding portsSound
 port-bits = (refl, refl, refl)
 
-first-rises : (l : Rows) → numberRises l 0 ≡ true
-unfolding numberRises
-first-rises l = refl
-
-later-rises : (l : Rows) (j : ℕ) → numberRises l (suc j) ≡ ltb (linkIn l j .number) (linkIn l (suc j) .number)
-unfolding numberRises
-later-rises l j =
-    let p : suc j - 1 ≡ j = omega arith in
-    simp (ne-eqb (suc j) 0 (λ e. omega arith)) (ap (λ (i : ℕ). ltb (linkIn l i .number) (linkIn l (suc j) .number)) p)
-
 pub numbers-rise : NumbersRise
-numbers-rise l j = (
-  first-rises l,
-  (λ e. ltb-true _ _ (sym (later-rises l j) ∙ e), λ h. later-rises l j ∙ lt-ltb _ _ h),
-)
+unfolding numberRises
+numbers-rise l j =
+    let q : eqb (suc j) 0 ≡ false = ne-eqb (suc j) 0 (λ e. omega arith) in
+    let p : suc j - 1 ≡ j = omega arith in (
+      refl,
+      (λ e. ltb-true _ _ (simp (q, p) at e), λ h. simp (q, p) (lt-ltb _ _ h)),
+    )
 
 pub rows-good-exactly : RowsGoodExactly
 unfolding accountGood linkGood

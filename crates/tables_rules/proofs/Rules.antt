@@ -115,19 +115,14 @@ module _ (a : Rows) (i at : ℕ) (e : at ≡ min (a .first) (length (a .octets))
   unfolding termsAt
   smax-row x f = f ∙ number-near (a .octets) (a .first) (a .step * i) at e 2
 
-module _ (l : Rows) (j : ℕ) where
-  pub rises-first : j ≡ 0 → true ≡ numberRises l j
-  unfolding numberRises
-  rises-first e = simp (eq-eqb _ _ e)
+pub number-row : (l : Rows) (j at x : ℕ) → at ≡ min (l .first) (length (l .octets)) + l .step * j → x ≡ numberAt 2 (l .octets) at
+    → x ≡ linkIn l j .number
+unfolding linkAt
+number-row l j at x e f = f ∙ number-near (l .octets) (l .first) (l .step * j) at e 2
 
-  pub rises-later : (j ≡ 0 → ⊥) → (a b x y : ℕ)
-      → a ≡ min (l .first) (length (l .octets)) + l .step * (j - 1) → x ≡ numberAt 2 (l .octets) a
-      → b ≡ min (l .first) (length (l .octets)) + l .step * j → y ≡ numberAt 2 (l .octets) b
-      → ltb x y ≡ numberRises l j
-  unfolding numberRises linkAt
-  rises-later d a b x y e f g h =
-      ap₂ ltb (f ∙ number-near (l .octets) (l .first) (l .step * (j - 1)) a e 2) (h ∙ number-near (l .octets) (l .first) (l .step * j) b g 2)
-      ∙ simp (ne-eqb _ _ d)
+pub rises-first : (l : Rows) (j : ℕ) → j ≡ 0 → true ≡ numberRises l j
+unfolding numberRises
+rises-first l j e = simp (eq-eqb _ _ e)
 
 module _ (a l : Rows) (n j : ℕ) (r : Bool) (e : r ≡ numberRises l j) where
   pub link-falls : not r ≡ true → false ≡ linkGood a l n j

@@ -1,5 +1,7 @@
 -- `number_rises`: the first link, or two numbers compared. Assumes nothing.
-use Rattle.tables_rules.proofs.Rules.{rises-first, rises-later}
+use borrow.Author.Tests.{ne-eqb}
+use Rattle.tables_rules.specs.Rules.{numberRises}
+use Rattle.tables_rules.proofs.Rules.{number-row, rises-first}
 use borrow.Author.Needs.{needs}
 use Rattle.tables_rules.proofs.number_rises.Statement.{statement}
 use Rattle.tables_rules.proofs.number_rises.Tie as tie
@@ -23,7 +25,13 @@ u16-at-requires-2 : tie.Need-u16-at-requires-2
 u16-at-requires-2 c κs = search needs
 
 returns-2 : tie.Need-returns-2
-returns-2 c = search rises-later
+unfolding numberRises
+returns-2 c =
+    simp (
+      number-row _ _ _ _ (c .before .before .before .row-offset .ensures) (c .before .before .u16-at .ensures),
+      number-row _ _ _ _ (c .before .row-offset2 .ensures) (c .u16-at2 .ensures),
+      ne-eqb _ _ (c .before .before .before .before .if1 .left),
+    )
 
 pub number-rises-spec : {M : Type 1} → statement M
 number-rises-spec =
