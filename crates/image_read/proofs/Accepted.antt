@@ -153,7 +153,7 @@ accepted s =
     (λ d z. absurd (d z))
     (λ h. by-end s (λ q. q .code ≡ 0 → Accepted s q) (goodAccounts s) (goodLinks s (goodAccounts s))
     (λ d z. absurd (d z))
-    (λ e l z. absurd (omega arith))
+    (λ e l at h z. absurd (omega arith))
     (λ e l z. record {
       head-code = h;
       end-code = e;
@@ -174,7 +174,7 @@ refused-zeros s =
     (λ d f. (refl, refl, refl))
     (λ h. by-end s (λ q. (q .code ≡ 0 → ⊥) → Zeros q) (goodAccounts s) (goodLinks s (goodAccounts s))
     (λ d f. (refl, refl, refl))
-    (λ e l f. (refl, refl, refl))
+    (λ e l at h f. (refl, refl, refl))
     (λ e l f. absurd (f refl)))
 
 -- ---- what ends the reading is the end

@@ -54,7 +54,7 @@ module _ (P : ℕ → Type 0) (p0 : P 0) (p20 : P 20) (p21 : P 21) (p22 : P 22) 
       (λ _. by-head s)
       (λ _. by-end s (λ q. P (q .code)) (goodAccounts s) (goodLinks s (goodAccounts s))
       (λ _. by-next s (goodAccounts s) (goodLinks s (goodAccounts s)))
-      (λ _ _. p25)
+      (λ _ _ _ _. p25)
       (λ _ _. p0))
 
 -- a number that a list has, by computing
@@ -145,7 +145,7 @@ offset-inside s =
     let m : ℕ = goodLinks s n in
     by-end s (λ q. q .offset ≤ length s) n m
     (λ _. links-inside s z n m (omega arith) (omega arith))
-    (λ _ l. omega arith)
+    (λ _ _ at h. h)
     (λ _ _. omega arith))
 
 -- ---- field by field: one step of the walk

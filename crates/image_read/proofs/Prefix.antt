@@ -5,10 +5,10 @@ use mathlib.Core.Bool.{Bool, false}
 use mathlib.Core.List.{List}
 use mathlib.Core.Path.{_≡_, refl, sym, ap, _∙_}
 use native.Mathlib.Omega.{arith}
-use lib.Dec.{leb, eqb}
+use lib.Dec.{ltb, leb, eqb}
 use lib.ListN.{length, getD, take}
 use lib.Seq.{length-take-le, take-all, getD-take}
-use borrow.Author.Tests.{lt-ltb, le-ltb, ltb-true, ltb-false, leb-true, leb-false, le-leb, eqb-true, eqb-false}
+use borrow.Author.Tests.{le-ltb, ltb-false, leb-true, leb-false, le-leb, eqb-true, eqb-false}
 use Rattle.octets.specs.Numbers.{numberAt}
 use Rattle.lists.proofs.Tests.{split}
 use Rattle.octets.proofs.Numbers.{number-shift}
@@ -22,7 +22,7 @@ use Rattle.image_read.specs.Read.{goodField, goodAccounts, goodLinks, re
 use Rattle.image_field.specs.Checks.{fieldCode, headGood, headCode, accountFields, linkFields, inOrder, dataOctets, isFull, valuesGood, tagAt, nextCode}
 use Rattle.image_read.specs.Claims.{PrefixRead}
 use Rattle.image_field.proofs.Checks.{octets-account, octets-link, octets-end}
-use Rattle.image_read.proofs.Reading.{few-accounts, few-links, end-refused, end-surplus, end-accepted, head-refused, head-passed, by-end, by-reading}
+use Rattle.image_read.proofs.Reading.{few-accounts, few-links, head-refused, head-passed, by-reading}
 
 -- no field's data are longer than a link's
 small-data : (tag : ℕ) → dataOctets tag ≤ linkOctets
@@ -123,17 +123,15 @@ module _ (s t : List ℕ) (same : (i : ℕ) → i < prefix → getD s i 0 ≡ ge
       omega arith
 
   end-same : (n m : ℕ) → n ≤ maxAccounts → m ≤ maxLinks → readEnd s n m ≡ readEnd t n m
+  unfolding readEnd
   end-same n m a b =
       let p = offset-low n a m b in
-      by-end s (λ q. q ≡ readEnd t n m) n m
-      (λ d. end-refused t n m (nextCode s n m) (next-same n a m b) d (fieldOffset n m) _ refl refl)
-      (λ z l.
-      let l′ : imageLength n m < length t = ltb-true _ _ (sym (long (suc (imageLength n m)) (omega arith)) ∙ lt-ltb _ _ l) in
-      end-surplus t n m (nextCode s n m) (next-same n a m b) z (imageLength n m) refl l′ _ refl)
-      (λ z h.
-      let e : length s ≡ length t = lengths-same (omega arith) in
-      rw e
-      (end-accepted t n m (nextCode s n m) (next-same n a m b) z (imageLength n m) refl (omega arith) (numberAt 4 s 4) (number-same 4 4 (omega arith))))
+      let e : ltb (imageLength n m) (length s) ≡ ltb (imageLength n m) (length t) = long (suc (imageLength n m)) (omega arith) in
+      split (ltb (imageLength n m) (length s))
+      (λ l. simp (next-same n a m b, l, sym e ∙ l))
+      (λ l.
+      let h : length s ≤ imageLength n m = ltb-false _ _ l in
+      simp (next-same n a m b, lengths-same (omega arith), number-same 4 4 (omega arith)))
 
   -- they read the same
   pub read-same : readImage s ≡ readImage t

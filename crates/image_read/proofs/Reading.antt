@@ -5,7 +5,7 @@ use mathlib.Core.Path.{_≡_, sym, ap, ap₂, _∙_}
 use native.Mathlib.Omega.{arith}
 use lib.Dec.{ltb, eqb}
 use lib.ListN.{length}
-use borrow.Author.Tests.{lt-ltb, le-ltb, ltb-true, ltb-false, eq-eqb, ne-eqb, eqb-true, eqb-false}
+use borrow.Author.Tests.{le-ltb, ltb-true, ltb-false, eq-eqb, ne-eqb, eqb-true, eqb-false}
 use Rattle.tables.specs.Rows.{settingsOf}
 use Rattle.octets.specs.Numbers.{numberAt}
 use Rattle.lists.proofs.Tests.{split}
@@ -30,15 +30,10 @@ module _ (s : List ℕ) (n m : ℕ) (code : ℕ) (e : code ≡ nextCode s n m) w
   unfolding readEnd
   end-refused d at q p v = v ∙ ap₂ imageRefused e p ∙ simp (ne-eqb _ _ (λ z. d (e ∙ z)))
 
-  module _ (z : code ≡ 0) (end : ℕ) (p : end ≡ dataOffset n m) where
-    pub end-surplus : end < length s → (q : ImageAnswer) → q ≡ imageRefused 25 end → q ≡ readEnd s n m
-    unfolding readEnd
-    end-surplus h q v = v ∙ ap (imageRefused 25) p ∙ simp (eq-eqb _ _ (sym e ∙ z), lt-ltb _ _ (rw p at h))
-
-    pub end-accepted : length s ≤ end → (k : ℕ) → k ≡ numberAt 4 s 4
-        → _≡_ {A = ImageAnswer} (record { code = 0; offset = length s; settings = settingsOf k n m }) (readEnd s n m)
-    unfolding readEnd
-    end-accepted h k c = rw c (simp (eq-eqb _ _ (sym e ∙ z), le-ltb _ _ (rw p at h)))
+  pub end-accepted : code ≡ 0 → (end : ℕ) → end ≡ dataOffset n m → length s ≤ end → (k : ℕ) → k ≡ numberAt 4 s 4
+      → _≡_ {A = ImageAnswer} (record { code = 0; offset = length s; settings = settingsOf k n m }) (readEnd s n m)
+  unfolding readEnd
+  end-accepted z end p h k c = rw c (simp (eq-eqb _ _ (sym e ∙ z), le-ltb _ _ (rw p at h)))
 
 -- ---- the answer
 module _ (s : List ℕ) (code : ℕ) (e : code ≡ headCode s) where
@@ -53,9 +48,10 @@ module _ (s : List ℕ) (code : ℕ) (e : code ≡ headCode s) where
 
 -- ---- by cases of what reading answers
 module _ (s : List ℕ) (P : ImageAnswer → Type 0) where
+  -- surplus octets are refused at some offset inside the image
   pub by-end : (n m : ℕ)
       → ((nextCode s n m ≡ 0 → ⊥) → P (imageRefused (nextCode s n m) (fieldOffset n m)))
-      → (nextCode s n m ≡ 0 → imageLength n m < length s → P (imageRefused 25 (imageLength n m)))
+      → (nextCode s n m ≡ 0 → imageLength n m < length s → (at : ℕ) → at ≤ length s → P (imageRefused 25 at))
       → (nextCode s n m ≡ 0 → length s ≤ imageLength n m → P (record { code = 0; offset = length s; settings = settingsOf (numberAt 4 s 4) n m }))
       → P (readEnd s n m)
   unfolding readEnd
@@ -63,7 +59,7 @@ module _ (s : List ℕ) (P : ImageAnswer → Type 0) where
       split (eqb (nextCode s n m) 0)
       (λ e.
       split (ltb (imageLength n m) (length s))
-      (λ l. simp (e, l) (g (eqb-true _ _ e) (ltb-true _ _ l)))
+      (λ l. let k = ltb-true _ _ l in simp (e, l) (g (eqb-true _ _ e) k _ (omega arith)))
       (λ l. simp (e, l) (h (eqb-true _ _ e) (ltb-false _ _ l))))
       (λ e. simp e (f (eqb-false _ _ e)))
 
@@ -86,7 +82,7 @@ few-read s =
     (λ d. (omega arith, omega arith))
     (λ z. by-end s Few (goodAccounts s) (goodLinks s (goodAccounts s))
     (λ d. (omega arith, omega arith))
-    (λ e h. (omega arith, omega arith))
+    (λ e h at k. (omega arith, omega arith))
     (λ e h. (few-accounts s, few-links s (goodAccounts s))))
 
 pub few-accounts-read : (s : List ℕ) (q : ImageAnswer) → q ≡ readImage s → q .settings .accounts ≤ maxAccounts
