@@ -19,7 +19,7 @@ use Rattle.image_read.proofs.Claims.{listed, code-listed, not-26, offset-inside
 use Rattle.image_fill.specs.Filling.{Runs, accountRows, linkRows, capacities, filled}
 use Rattle.image_load.specs.Loading.{runsHold}
 use Rattle.image_load.specs.Claims.{LoadCodes, RefusedLoadKeeps, LongEnoughExactly, LoadRefuses, OffsetsInside, RowsBeyondKept}
-use Rattle.image_load.proofs.Fresh.{runsHeld, by-load, length-account-rows, length-link-rows, length-capacities}
+use Rattle.image_load.proofs.Loading.{runsHeld, by-load, length-account-rows, length-link-rows, length-capacities}
 
 -- ---- codes
 pub load-codes : LoadCodes

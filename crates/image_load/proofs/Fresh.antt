@@ -1,16 +1,14 @@
--- What loading leaves, by cases, and the tables of a history's start: they hold the image's rows, and code 10 fits none. Assumes
--- nothing.
+-- The tables of a history's start: they hold the image's rows, and code 10 fits none. Assumes nothing.
 use Prim.Native.Nat.{ℕ, zero, suc, _+_, _-_, _*_, _≤_, _<_, min}
-use mathlib.Core.Bool.{Bool, true, false, _&&_, false≢true}
+use mathlib.Core.Bool.{true, false, false≢true}
 use mathlib.Core.List.{List, [], _∷_}
 use mathlib.Core.Path.{_≡_, refl, sym, ap, _∙_}
-use native.Mathlib.Nat.{zero-add, one-mul, min-le-right}
+use native.Mathlib.Nat.{zero-add, min-le-right}
 use native.Mathlib.Omega.{arith}
-use lib.Dec.{leb, eqb}
+use lib.Dec.{leb}
 use lib.ListN.{length, getD, take, drop, replicate, length-take, length-replicate, getD-replicate}
 use lib.Seq.{take-append-seam, getD-take}
-use borrow.Author.Tests.{ltb-true, le-leb, leb-true, leb-false, eq-eqb, ne-eqb}
-use Rattle.lists.specs.Choice.{if_then_else_}
+use borrow.Author.Tests.{ltb-true, leb-true, leb-false, ne-eqb}
 use Rattle.octets.specs.Runs.{octetsAt, joined, put}
 use Rattle.lists.proofs.Tests.{split, both}
 use Rattle.octets.proofs.Parts.{length-part, getD-part, part-same, part-octet, length-joined, joined-at, row-below}
@@ -21,34 +19,17 @@ use Rattle.tables.specs.Rows.{accountOctets, linkOctets, accountTable, linkTabl
 use Rattle.tables_rules.specs.Rules.{linkSound, numberRises, linkGood}
 use Rattle.tables.proofs.Rows.{terms-same, link-same}
 use Rattle.tables_rules.proofs.Rules.{account-good-same, link-good-same}
-use Rattle.image_read.specs.Read.{goodAccounts, goodLinks, imageRefused, readImage}
+use Rattle.image_read.specs.Read.{goodAccounts, goodLinks, readImage}
 use Rattle.image_field.specs.Checks.{accountFields, linkFields}
-use Rattle.image_load.specs.Loading.{Loading, loadingOf, runsHold, longEnough, loading}
-use Rattle.image_fill.specs.Filling.{Runs, accountRows, linkRows, fullCredit, capacities, filled}
+use Rattle.image_load.specs.Loading.{runsHold}
+use Rattle.image_fill.specs.Filling.{Runs, runsOf, accountRows, linkRows, capacities, filled}
 use Rattle.image_load.specs.Fresh.{Begins, Fresh, LoadFresh, LoadAccepts, HoldsImage, FreshHolds, FreshSound}
 use Rattle.image_read.proofs.Reading.{few-read}
-use Rattle.image_load.proofs.Loading.{by-loading}
+use Rattle.image_load.proofs.Loading.{runsHeld, by-load, length-account-rows, length-link-rows, length-capacities}
+use Rattle.image_load.proofs.Claims.{long-enough-exactly}
 use Rattle.image_read.proofs.Accepted.{Accepted, accepted, counted-account, counted-link, good-account, good-link, some-accounts, some-links}
 
--- ---- runs that are long enough for what an image names
-abbrev pub runsHeld : List ℕ → Runs → Bool
-runsHeld s r = longEnough (readImage s .settings .accounts) (readImage s .settings .links) r
-
--- by cases of what loading answers and leaves
-pub by-load : (s : List ℕ) (r : Runs) (P : Loading → Type 0)
-    → ((readImage s .code ≡ 0 → ⊥) → P (loadingOf (readImage s) r))
-    → (readImage s .code ≡ 0 → runsHeld s r ≡ true → P (loadingOf (readImage s) (filled s (readImage s .settings .accounts) (readImage s .settings .links) r)))
-    → (readImage s .code ≡ 0 → runsHeld s r ≡ false → P (loadingOf (imageRefused 26 (length s)) r))
-    → P (loading s r)
-unfolding loading
-by-load s r P f g h =
-    by-loading s (length (r .accounts)) (length (r .credits)) (length (r .lasts)) (length (r .links))
-    (λ q. P (if eqb (q .code) 0 then loadingOf q (filled s (q .settings .accounts) (q .settings .links) r) else loadingOf q r))
-    (λ d. simp (ne-eqb _ _ d) (f d))
-    (λ z t. simp (eq-eqb _ _ z) (g z t))
-    (λ z t. h z t)
-
--- what the test of the runs' lengths says
+-- what the test of the runs' lengths says, of lengths alone
 module _ (n m accounts credits lasts links : ℕ) where
   pub record Long : Type 0 where
     pub accounts-long : accountOctets * n ≤ accounts
@@ -57,21 +38,10 @@ module _ (n m accounts credits lasts links : ℕ) where
     pub links-long : linkOctets * m ≤ links
 
   pub held-long : runsHold n m accounts credits lasts links ≡ true → Long
-  unfolding runsHold
   held-long e =
-      let a = both (leb (accountOctets * n) accounts && leb n credits && leb n lasts) (leb (linkOctets * m) links) e in
-      let b = both (leb (accountOctets * n) accounts && leb n credits) (leb n lasts) (a .0) in
-      let c = both (leb (accountOctets * n) accounts) (leb n credits) (b .0) in
-      record {
-        accounts-long = leb-true _ _ (c .0);
-        credits-long = leb-true _ _ (c .1);
-        lasts-long = leb-true _ _ (b .1);
-        links-long = leb-true _ _ (a .1);
-      }
-
-  pub long-held : accountOctets * n ≤ accounts → n ≤ credits → n ≤ lasts → linkOctets * m ≤ links → runsHold n m accounts credits lasts links ≡ true
-  unfolding runsHold
-  long-held a c t l = simp (le-leb _ _ a, le-leb _ _ c, le-leb _ _ t, le-leb _ _ l)
+      let r : Runs = runsOf (replicate accounts 0) (replicate credits 0) (replicate lasts 0) (replicate links 0) in
+      let h = simp length-replicate at (long-enough-exactly n m r .0 (simp length-replicate e)) in
+      record { accounts-long = h .0; credits-long = h .1; lasts-long = h .2; links-long = h .3 }
 
 -- ---- loading accepts what reading accepts
 pub load-accepts : LoadAccepts
@@ -122,36 +92,23 @@ module _ (x : ℕ → ℕ) (n : ℕ) (d : List ℕ) (e : Begins (joined (λ i. x
       ∙ sym (getD-part 1 d (1 * i) 0 (omega arith))
       ∙ ap (λ (xs : List ℕ). getD xs 0 0) (rows-at (λ i. x i ∷ []) 1 (λ i. refl) n d e i h)
 
--- ---- loading leaves fresh tables: the lengths of what is written, and what filled runs begin with
-module _ (s : List ℕ) (n m : ℕ) where
-  pub length-account-rows : length (accountRows s n) ≡ accountOctets * n
-  unfolding accountRows
-  length-account-rows = length-joined (rowOctets accountOctets (accountFields s)) accountOctets (λ i. length-part accountOctets s _) n
-
-  pub length-link-rows : length (linkRows s n m) ≡ linkOctets * m
-  unfolding linkRows
-  length-link-rows = length-joined (rowOctets linkOctets (linkFields s n)) linkOctets (λ j. length-part linkOctets s _) m
-
-  pub length-capacities : length (capacities (accountFields s) n) ≡ n
-  unfolding capacities
-  length-capacities = length-joined (λ i. fullCredit (accountFields s) i ∷ []) 1 (λ i. refl) n ∙ one-mul n
-
+-- ---- loading leaves fresh tables
 pub filled-fresh : (s : List ℕ) (r : Runs) → readImage s .code ≡ 0 → runsHeld s r ≡ true → Fresh s (filled s (readImage s .settings .accounts) (readImage s .settings .links) r)
 unfolding filled
 filled-fresh s r z t =
     let n : ℕ = readImage s .settings .accounts in
     let m : ℕ = readImage s .settings .links in
-    let h = held-long n m (length (r .accounts)) (length (r .credits)) (length (r .lasts)) (length (r .links)) t in
+    let h = long-enough-exactly n m r .0 t in
     let a : length (accountRows s n) ≡ accountOctets * n = length-account-rows s n m in
     let c : length (capacities (accountFields s) n) ≡ n = length-capacities s n m in
     let u : length {A = ℕ} (replicate n 0) ≡ n = length-replicate n 0 in
     let l : length (linkRows s n m) ≡ linkOctets * m = length-link-rows s n m in
     record {
       accepted = z;
-      accounts = begins-put (r .accounts) (accountRows s n) (rw a (h .accounts-long));
-      credits = begins-put (r .credits) (capacities (accountFields s) n) (rw c (h .credits-long));
-      lasts = begins-put (r .lasts) (replicate n 0) (rw u (h .lasts-long));
-      links = begins-put (r .links) (linkRows s n m) (rw l (h .links-long));
+      accounts = begins-put (r .accounts) (accountRows s n) (rw a (h .0));
+      credits = begins-put (r .credits) (capacities (accountFields s) n) (rw c (h .1));
+      lasts = begins-put (r .lasts) (replicate n 0) (rw u (h .2));
+      links = begins-put (r .links) (linkRows s n m) (rw l (h .3));
     }
 
 pub load-fresh : LoadFresh
@@ -192,12 +149,12 @@ fresh-holds s r f =
     let u : length {A = ℕ} (replicate n 0) ≡ n = length-replicate n 0 in
     let l : length (linkRows s n m) ≡ linkOctets * m = length-link-rows s n m in
     record {
-      long =
-          long-held n m (length (r .accounts)) (length (r .credits)) (length (r .lasts)) (length (r .links))
-          (rw a at (begins-length (accountRows s n) (r .accounts) (f .accounts)))
-          (rw c at (begins-length (capacities (accountFields s) n) (r .credits) (f .credits)))
-          (rw u at (begins-length (replicate n 0) (r .lasts) (f .lasts)))
-          (rw l at (begins-length (linkRows s n m) (r .links) (f .links)));
+      long = long-enough-exactly n m r .1 (
+        rw a at (begins-length (accountRows s n) (r .accounts) (f .accounts)),
+        rw c at (begins-length (capacities (accountFields s) n) (r .credits) (f .credits)),
+        rw u at (begins-length (replicate n 0) (r .lasts) (f .lasts)),
+        rw l at (begins-length (linkRows s n m) (r .links) (f .links)),
+      );
       accounts = account-held s n m (r .accounts) (f .accounts);
       links = link-held s n m (r .links) (f .links);
     }

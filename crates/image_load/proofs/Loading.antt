@@ -1,46 +1,30 @@
--- Laws of what loading answers, case by case as the code makes them. Assumes nothing.
+-- Laws of what loading answers and leaves, case by case. Assumes nothing.
 use Prim.Native.Nat.{ℕ, _*_, _≤_, _<_}
 use mathlib.Core.Bool.{Bool, true, false}
-use mathlib.Core.List.{List}
+use mathlib.Core.List.{List, [], _∷_}
 use mathlib.Core.Path.{_≡_, refl, sym, ap, _∙_}
+use native.Mathlib.Nat.{one-mul}
 use native.Mathlib.Omega.{arith}
-use lib.Dec.{leb, eqb}
+use lib.Dec.{eqb}
 use lib.ListN.{length, replicate}
-use borrow.Author.Tests.{le-leb, lt-leb, eq-eqb, ne-eqb, eqb-true, eqb-false}
+use borrow.Author.Tests.{eq-eqb, ne-eqb, eqb-true, eqb-false}
+use Rattle.lists.specs.Choice.{if_then_else_}
 use Rattle.lists.proofs.Tests.{split}
+use Rattle.rows.specs.Rows.{rowOctets}
 use Rattle.tables.specs.Rows.{accountOctets, linkOctets}
 use Rattle.tables_rules.specs.Rules.{accountGood}
 use Rattle.image_layout.specs.Layout.{maxAccounts, maxLinks}
 use Rattle.image_read.specs.Read.{imageRefused, readImage}
-use Rattle.image_field.specs.Checks.{accountFields}
+use Rattle.image_field.specs.Checks.{accountFields, linkFields}
 use Rattle.image_read.specs.declared.ImageAnswer.{ImageAnswer}
 use Rattle.image_read.proofs.Accepted.{accepted, refused-zeros, counted-account, good-account}
 use Rattle.image_read.proofs.Reading.{Few, few-read}
-use Rattle.image_load.specs.Loading.{runsHold, loadAnswer, answerFor, loadingOf, loading}
-use Rattle.image_fill.specs.Filling.{Runs, accountRows, capacities, filled, linkRows, runsOf}
+use Rattle.image_load.specs.Loading.{Loading, loadingOf, runsHold, longEnough, loadAnswer, answerFor, loading}
+use Rattle.image_fill.specs.Filling.{Runs, accountRows, linkRows, fullCredit, capacities, filled, runsOf}
 use Rattle.octets.specs.Runs.{joined, put}
+use Rattle.octets.proofs.Parts.{length-part, length-joined}
 use Rattle.octets.proofs.Runs.{put-none}
 use Rattle.image_fill.proofs.Filling.{methodCapacity, capacities-good}
-
--- ---- runs long enough
-module _ (n m accounts credits lasts links : ℕ) where
-  pub accounts-short : accounts < accountOctets * n → false ≡ runsHold n m accounts credits lasts links
-  unfolding runsHold
-  accounts-short h = simp (lt-leb _ _ h)
-
-  module _ (h1 : accountOctets * n ≤ accounts) where
-    pub credits-short : credits < n → false ≡ runsHold n m accounts credits lasts links
-    unfolding runsHold
-    credits-short h = simp (le-leb _ _ h1, lt-leb _ _ h)
-
-    module _ (h2 : n ≤ credits) where
-      pub lasts-short : lasts < n → false ≡ runsHold n m accounts credits lasts links
-      unfolding runsHold
-      lasts-short h = simp (le-leb _ _ h1, le-leb _ _ h2, lt-leb _ _ h)
-
-      pub links-tested : n ≤ lasts → leb (linkOctets * m) links ≡ runsHold n m accounts credits lasts links
-      unfolding runsHold
-      links-tested h = simp (le-leb _ _ h1, le-leb _ _ h2, le-leb _ _ h)
 
 -- ---- the answer of loading
 module _ (s : List ℕ) (accounts credits lasts links : ℕ) (q : ImageAnswer) (e : q ≡ readImage s) where
@@ -136,3 +120,35 @@ module _ (s : List ℕ) (r : Runs) (q : ImageAnswer) (e : q ≡ answerFor s r) (
       (λ z.
       let d : (q .code ≡ 0 → ⊥) = eqb-false _ _ z in
       ap (loadingOf q) (keeps (refused-none s r q e d .0) (refused-none s r q e d .1)) ∙ rw e (simp (rw e at z)))
+
+-- ---- runs that are long enough for what an image names
+abbrev pub runsHeld : List ℕ → Runs → Bool
+runsHeld s r = longEnough (readImage s .settings .accounts) (readImage s .settings .links) r
+
+-- by cases of what loading answers and leaves
+pub by-load : (s : List ℕ) (r : Runs) (P : Loading → Type 0)
+    → ((readImage s .code ≡ 0 → ⊥) → P (loadingOf (readImage s) r))
+    → (readImage s .code ≡ 0 → runsHeld s r ≡ true → P (loadingOf (readImage s) (filled s (readImage s .settings .accounts) (readImage s .settings .links) r)))
+    → (readImage s .code ≡ 0 → runsHeld s r ≡ false → P (loadingOf (imageRefused 26 (length s)) r))
+    → P (loading s r)
+unfolding loading
+by-load s r P f g h =
+    by-loading s (length (r .accounts)) (length (r .credits)) (length (r .lasts)) (length (r .links))
+    (λ q. P (if eqb (q .code) 0 then loadingOf q (filled s (q .settings .accounts) (q .settings .links) r) else loadingOf q r))
+    (λ d. simp (ne-eqb _ _ d) (f d))
+    (λ z t. simp (eq-eqb _ _ z) (g z t))
+    (λ z t. h z t)
+
+-- ---- the lengths of what is written
+module _ (s : List ℕ) (n m : ℕ) where
+  pub length-account-rows : length (accountRows s n) ≡ accountOctets * n
+  unfolding accountRows
+  length-account-rows = length-joined (rowOctets accountOctets (accountFields s)) accountOctets (λ i. length-part accountOctets s _) n
+
+  pub length-link-rows : length (linkRows s n m) ≡ linkOctets * m
+  unfolding linkRows
+  length-link-rows = length-joined (rowOctets linkOctets (linkFields s n)) linkOctets (λ j. length-part linkOctets s _) m
+
+  pub length-capacities : length (capacities (accountFields s) n) ≡ n
+  unfolding capacities
+  length-capacities = length-joined (λ i. fullCredit (accountFields s) i ∷ []) 1 (λ i. refl) n ∙ one-mul n

@@ -18,7 +18,7 @@ use Rattle.image_read.proofs.Reading.{few-read}
 use Rattle.image_load.specs.Loading.{loadingOf, loading}
 use Rattle.image_fill.specs.Filling.{Runs}
 use Rattle.image_load.specs.Claims.{PrefixLoad}
-use Rattle.image_load.proofs.Fresh.{by-load}
+use Rattle.image_load.proofs.Loading.{by-load}
 
 short : (s : List ℕ) → readImage s .code ≡ 0 → length s ≤ imagePrefix
 unfolding fieldOffset

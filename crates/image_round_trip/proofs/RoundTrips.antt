@@ -32,7 +32,8 @@ use Rattle.image_layout.proofs.Offsets.{account-offset, link-offset}
 use Rattle.image_read.proofs.Reading.{few-read}
 use Rattle.image_read.proofs.Accepted.{Accepted, accepted, head-passes, good-tag, good-by, good-passes, good-account, good-link, counted-account, counted-link, some-accounts, some-links, end-tag}
 use Rattle.image_read.proofs.Passing.{head-good-by, head-good-constant, head-good-edition, head-code-by, account-passes, link-passes, end-passes, reads-as}
-use Rattle.image_load.proofs.Fresh.{by-load, begins-put, rows-at, load-fresh, fresh-holds, held-long}
+use Rattle.image_load.proofs.Loading.{by-load}
+use Rattle.image_load.proofs.Fresh.{begins-put, rows-at, load-fresh, fresh-holds, held-long}
 use Rattle.image_write.specs.Writing.{countsGood, countGood, badAccount, badLink, valueAnswer, writtenOf, writeAnswer, writingOf, writing}
 use Rattle.image_round_trip.specs.RoundTrips.{tablesIn, AcceptedIsImage, ImageIsAccepted, writtenImage, readBack, WriteRead, loadedTables, ReadWrite}
 use Rattle.image_write.specs.declared.Written.{Written}
