@@ -1,11 +1,11 @@
 -- Laws of the checks of one field, case by case as the code makes them. Assumes nothing.
 use Prim.Native.Nat.{ℕ}
-use mathlib.Core.Bool.{Bool, true, false, not}
+use mathlib.Core.Bool.{Bool, true, false}
 use mathlib.Core.List.{List}
 use mathlib.Core.Path.{_≡_, ap, ap₂, _∙_}
 use lib.Dec.{leb, eqb}
 use lib.ListN.{getD}
-use borrow.Author.Tests.{eq-eqb, ne-eqb, not-true, not-false}
+use borrow.Author.Tests.{eq-eqb, ne-eqb}
 use Rattle.octets.specs.Numbers.{numberAt}
 use Rattle.lists.proofs.Tests.{split}
 use Rattle.tables.specs.Rows.{accountOctets, linkOctets}
@@ -14,41 +14,6 @@ use Rattle.fields.specs.Fields.{fieldAt}
 use Rattle.fields.specs.declared.Field.{Field}
 use Rattle.image_layout.specs.Layout.{headTag, headOctets, accountTag, linkTag, endTag, edition, fieldOffset, maxAccounts, maxLinks, constantGood}
 use Rattle.image_field.specs.Checks.{fieldCode, headGood, headCode, accountFields, linkFields, inOrder, dataOctets, isFull, valuesGood, nextCode}
-
--- ---- the code of a field
-module _ (f : Field) (order : Bool) (size : ℕ) (full good : Bool) where
-  pub code-short : not (f .headed) ≡ true → 20 ≡ fieldCode f order size full good
-  unfolding fieldCode
-  code-short h = simp (not-true (f .headed) h)
-
-  module _ (h : not (f .headed) ≡ false) where
-    pub code-order : not order ≡ true → 21 ≡ fieldCode f order size full good
-    unfolding fieldCode
-    code-order e = simp (not-false (f .headed) h, not-true order e)
-
-    module _ (o : not order ≡ false) where
-      pub code-length : (f .size ≡ size → ⊥) → 22 ≡ fieldCode f order size full good
-      unfolding fieldCode
-      code-length d = simp (not-false (f .headed) h, not-false order o, ne-eqb _ _ d)
-
-      module _ (l : f .size ≡ size) where
-        pub code-cut : not (f .whole) ≡ true → 20 ≡ fieldCode f order size full good
-        unfolding fieldCode
-        code-cut k = simp (not-false (f .headed) h, not-false order o, eq-eqb _ _ l, not-true (f .whole) k)
-
-        module _ (k : not (f .whole) ≡ false) where
-          pub code-full : full ≡ true → 24 ≡ fieldCode f order size full good
-          unfolding fieldCode
-          code-full z = simp (not-false (f .headed) h, not-false order o, eq-eqb _ _ l, not-false (f .whole) k, z)
-
-          module _ (z : full ≡ false) where
-            pub code-good : good ≡ true → 0 ≡ fieldCode f order size full good
-            unfolding fieldCode
-            code-good g = simp (not-false (f .headed) h, not-false order o, eq-eqb _ _ l, not-false (f .whole) k, z, g)
-
-            pub code-bad : good ≡ false → 23 ≡ fieldCode f order size full good
-            unfolding fieldCode
-            code-bad g = simp (not-false (f .headed) h, not-false order o, eq-eqb _ _ l, not-false (f .whole) k, z, g)
 
 -- ---- the head's values
 module _ (s : List ℕ) (e : ℕ) (p : e ≡ getD s 3 0) where

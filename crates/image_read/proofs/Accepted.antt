@@ -1,12 +1,12 @@
 -- What an accepted image is like, field by field, and that a refusal answers no counts. Assumes nothing.
 use Prim.Native.Nat.{ℕ, _+_, _≤_, _<_}
-use mathlib.Core.Bool.{Bool, true, false, not, _&&_, false≢true}
+use mathlib.Core.Bool.{Bool, true, false, _&&_, false≢true}
 use mathlib.Core.List.{List}
-use mathlib.Core.Path.{_≡_, refl, sym, ap, ap₂, _∙_}
+use mathlib.Core.Path.{_≡_, refl, sym, ap₂, _∙_}
 use native.Mathlib.Omega.{arith}
 use lib.Dec.{leb, eqb}
 use lib.ListN.{length, getD}
-use borrow.Author.Tests.{leb-true, leb-false, eq-eqb, ne-eqb, eqb-true, eqb-false}
+use borrow.Author.Tests.{leb-true, leb-false, le-leb, eq-eqb, ne-eqb, eqb-true, eqb-false}
 use Rattle.octets.specs.Numbers.{numberAt}
 use Rattle.lists.proofs.Tests.{split, both}
 use Rattle.tables_rules.specs.Rules.{accountGood, linkGood}
@@ -17,7 +17,7 @@ use Rattle.image_layout.specs.Layout.{headTag, accountTag, linkTag, endTag, hea
 use Rattle.image_read.specs.Read.{goodField, goodAccounts, goodLinks, readImage}
 use Rattle.image_field.specs.Checks.{fieldCode, headGood, headCode, accountFields, linkFields, inOrder, dataOctets, isFull, valuesGood, tagAt, nextCode}
 use Rattle.image_read.specs.declared.ImageAnswer.{ImageAnswer}
-use Rattle.image_field.proofs.Checks.{code-short, code-order, code-length, code-cut, code-full, code-bad, full-account, full-link}
+use Rattle.image_field.proofs.Checks.{full-account, full-link}
 use Rattle.image_read.proofs.Reading.{by-end, by-reading}
 
 -- ---- a field that passes every check
@@ -34,36 +34,38 @@ module _ (s : List ℕ) (at : ℕ) (order : Bool) (size : ℕ) (full good : Bool
   f = fieldAt s at
 
   is-headed : f .headed ≡ true
-  is-headed =
-      split (f .headed) (λ e. e)
-      (λ e. let h = code-short f order size full good (ap not e) in absurd (omega arith))
+  unfolding fieldCode
+  is-headed = split (f .headed) (λ e. e) (λ e. let h = simp e at z in absurd (omega arith))
 
   passed-ordered : order ≡ true
-  passed-ordered =
-      split order (λ e. e)
-      (λ e. let h = code-order f order size full good (ap not is-headed) (ap not e) in absurd (omega arith))
+  unfolding fieldCode
+  passed-ordered = split order (λ e. e) (λ e. let h = simp (is-headed, e) at z in absurd (omega arith))
 
   passed-sized : numberAt 2 s (at + 1) ≡ size
+  unfolding fieldCode
   passed-sized =
       split (eqb (numberAt 2 s (at + 1)) size)
       (λ e. eqb-true _ _ e)
-      (λ e. let h = code-length f order size full good (ap not is-headed) (ap not passed-ordered) (eqb-false _ _ e) in absurd (omega arith))
+      (λ e. let h = simp (is-headed, passed-ordered, e) at z in absurd (omega arith))
 
   is-whole : f .whole ≡ true
+  unfolding fieldCode
   is-whole =
       split (f .whole) (λ e. e)
-      (λ e. let h = code-cut f order size full good (ap not is-headed) (ap not passed-ordered) passed-sized (ap not e) in absurd (omega arith))
+      (λ e. let h = simp (is-headed, passed-ordered, eq-eqb _ _ passed-sized, e) at z in absurd (omega arith))
 
   passed-few : full ≡ false
+  unfolding fieldCode
   passed-few =
       split full
-      (λ e. let h = code-full f order size full good (ap not is-headed) (ap not passed-ordered) passed-sized (ap not is-whole) e in absurd (omega arith))
+      (λ e. let h = simp (is-headed, passed-ordered, eq-eqb _ _ passed-sized, is-whole, e) at z in absurd (omega arith))
       (λ e. e)
 
   passed-sound : good ≡ true
+  unfolding fieldCode
   passed-sound =
       split good (λ e. e)
-      (λ e. let h = code-bad f order size full good (ap not is-headed) (ap not passed-ordered) passed-sized (ap not is-whole) passed-few e in absurd (omega arith))
+      (λ e. let h = simp (is-headed, passed-ordered, eq-eqb _ _ passed-sized, is-whole, passed-few, e) at z in absurd (omega arith))
 
   passed-headed : at + tagAndLength ≤ length s
   passed-headed = leb-true _ _ is-headed
@@ -83,6 +85,22 @@ module _ (s : List ℕ) (at : ℕ) (order : Bool) (size : ℕ) (full good : Bool
         few = passed-few;
         sound = passed-sound;
       }
+
+-- and the other way round
+pub passes : (s : List ℕ) (at : ℕ) (order : Bool) (size : ℕ) (full good : Bool) → Passed s at order size full good
+    → fieldCode (fieldAt s at) order size full good ≡ 0
+unfolding fieldCode
+passes s at order size full good p =
+    let w = p .whole in
+    let n = p .sized in
+    simp (
+      le-leb (at + tagAndLength) (length s) (p .headed),
+      p .ordered,
+      eq-eqb _ _ n,
+      le-leb (at + (tagAndLength + numberAt 2 s (at + 1))) (length s) (omega arith),
+      p .few,
+      p .sound,
+    )
 
 -- the head, and a later field
 pub head-passes : (s : List ℕ) → headCode s ≡ 0 → Passed s 0 (eqb (getD s 0 0) headTag) headOctets false (headGood s)

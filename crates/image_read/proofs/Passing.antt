@@ -6,27 +6,20 @@ use mathlib.Core.Path.{_≡_, refl, sym, ap, ap₂, _∙_}
 use native.Mathlib.Omega.{arith}
 use lib.Dec.{eqb}
 use lib.ListN.{length, getD}
-use borrow.Author.Tests.{le-leb, lt-leb, eq-eqb, ne-eqb, eqb-true, not-true, not-false}
+use borrow.Author.Tests.{lt-leb, eq-eqb, ne-eqb, eqb-true, not-true, not-false}
 use Rattle.octets.specs.Numbers.{numberAt}
 use Rattle.lists.proofs.Tests.{split, both}
 use Rattle.tables.specs.Rows.{accountOctets, linkOctets, settingsOf}
 use Rattle.tables_rules.specs.Rules.{accountGood, linkGood}
 use Rattle.lists.proofs.Leading.{leading-zero, leading-stop, leading-is}
-use Rattle.fields.specs.Fields.{tagAndLength, lengthAt, fieldAt, standsAt}
+use Rattle.fields.specs.Fields.{standsAt}
 use Rattle.fields.proofs.Fields.{stands-by, stands-tag, stands-length, stands-whole}
 use Rattle.image_layout.specs.Layout.{headTag, accountTag, linkTag, endTag, edition, headOctets, headSize, fieldOffset, imageLength, maxAccounts, maxLinks, constantGood}
 use Rattle.image_read.specs.Read.{goodField, goodAccounts, goodLinks, readImage}
 use Rattle.image_field.specs.Checks.{headGood, headCode, accountFields, linkFields, inOrder, dataOctets, isFull, valuesGood, codeByTag, tagAt, nextCode}
-use Rattle.image_field.proofs.Checks.{code-good, order-link, order-end}
-use Rattle.image_read.proofs.Accepted.{good-by, good-tag, good-code, good-passes, link-first}
+use Rattle.image_field.proofs.Checks.{order-link, order-end}
+use Rattle.image_read.proofs.Accepted.{passes, good-by, good-tag, good-code, good-passes, link-first}
 use Rattle.image_read.proofs.Reading.{end-accepted, head-passed}
-
--- ---- the octets of a field that are there
-headed-by : (s : List ℕ) (at : ℕ) → at + tagAndLength ≤ length s → not (fieldAt s at .headed) ≡ false
-headed-by s at h = ap not (le-leb (at + tagAndLength) (length s) h)
-
-whole-by : (s : List ℕ) (at : ℕ) → at + (tagAndLength + lengthAt s at) ≤ length s → not (fieldAt s at .whole) ≡ false
-whole-by s at h = ap not (le-leb (at + (tagAndLength + lengthAt s at)) (length s) h)
 
 -- ---- the head
 pub head-good-by : (s : List ℕ) → getD s 3 0 ≡ edition → constantGood (numberAt 4 s 4) ≡ true → headGood s ≡ true
@@ -44,7 +37,8 @@ head-good-edition s e = eqb-true _ _ (both (eqb (getD s 3 0) edition) (constantG
 pub head-code-by : (s : List ℕ) → headSize ≤ length s → getD s 0 0 ≡ headTag → numberAt 2 s (0 + 1) ≡ headOctets → headGood s ≡ true → headCode s ≡ 0
 unfolding headCode
 head-code-by s l t n g =
-    sym (code-good (fieldAt s 0) (eqb (getD s 0 0) headTag) headOctets false (headGood s) (headed-by s 0 (omega arith)) (ap not (eq-eqb _ _ t)) n (whole-by s 0 (omega arith)) refl g)
+    passes s 0 (eqb (getD s 0 0) headTag) headOctets false (headGood s)
+    (record { headed = omega arith; ordered = eq-eqb _ _ t; sized = n; whole = omega arith; few = refl; sound = g })
 
 -- ---- a later field, by its tag: where it stands whole, in order and not one too many, it is good exactly where its values are
 module _ (s : List ℕ) (tag n m : ℕ) where
@@ -57,8 +51,8 @@ module _ (s : List ℕ) (tag n m : ℕ) where
       let h = stands-whole s (fieldOffset n m) tag (dataOctets tag) w in
       good-by s tag n m t
       (ap (codeByTag s n m) t
-      ∙ sym (code-good (fieldAt s (fieldOffset n m)) (inOrder tag n m) (dataOctets tag) (isFull tag n m) (valuesGood s tag n m)
-      (headed-by s (fieldOffset n m) (omega arith)) (ap not o) l (whole-by s (fieldOffset n m) (omega arith)) f g))
+      ∙ passes s (fieldOffset n m) (inOrder tag n m) (dataOctets tag) (isFull tag n m) (valuesGood s tag n m)
+      (record { headed = omega arith; ordered = o; sized = l; whole = omega arith; few = f; sound = g }))
 
   good-stands : goodField s tag n m ≡ true → standsAt s (fieldOffset n m) tag (dataOctets tag) ≡ true
   good-stands e =
