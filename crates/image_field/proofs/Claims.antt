@@ -1,25 +1,18 @@
 -- The table of a field's codes, from the definitions alone. Assumes nothing.
 use Prim.Native.Nat.{ℕ, suc, _+_}
-use mathlib.Core.Bool.{Bool, true, false, not}
+use mathlib.Core.Bool.{Bool, true, false}
 use mathlib.Core.List.{List}
-use mathlib.Core.Path.{_≡_, refl, sym, ap, _∙_}
+use mathlib.Core.Path.{_≡_, refl, ap, _∙_}
 use native.Mathlib.Omega.{arith}
 use lib.ListN.{length}
-use lib.Dec.{leb, ltb, eqb}
-use borrow.Author.Tests.{leb-true, leb-false, le-ltb, lt-ltb, eqb-true, ne-eqb}
+use lib.Dec.{leb, eqb}
+use borrow.Author.Tests.{eqb-true, ne-eqb}
 use Rattle.lists.specs.Lines.{firstFit}
-use Rattle.lists.proofs.Tests.{split}
-use Rattle.fields.specs.Fields.{tagAndLength, lengthAt, fieldAt}
+use Rattle.lists.proofs.Tests.{split, not-above, above}
+use Rattle.fields.specs.Fields.{lengthAt, fieldAt}
 use Rattle.image_layout.specs.Layout.{fieldOffset}
 use Rattle.image_field.specs.Checks.{fieldCode, headGood, headCode, inOrder, dataOctets, isFull, valuesGood, nextCode}
-use Rattle.image_field.specs.Claims.{fieldLines, HeadCodesInOrder, NextCodesInOrder, TagsInOrder, ByTag, FieldsByTag}
-
--- what is not there is cut off
-there : (a b : ℕ) → leb a b ≡ true → ltb b a ≡ false
-there a b e = le-ltb b a (leb-true a b e)
-
-missing : (a b : ℕ) → leb a b ≡ false → ltb b a ≡ true
-missing a b e = lt-ltb b a (leb-false a b e)
+use Rattle.image_field.specs.Claims.{fieldLines, HeadCodesInOrder, NextCodesInOrder, TagsInOrder, FieldsByTag}
 
 -- the code of a field is that of the first line that fits
 lines : (s : List ℕ) (at : ℕ) (order : Bool) (size : ℕ) (full good : Bool)
@@ -34,15 +27,15 @@ lines s at order size full good =
     split (leb (at + (3 + size)) (length s))
     (λ w. let v : leb (at + (3 + lengthAt s at)) (length s) ≡ true = ap (λ (k : ℕ). leb (at + (3 + k)) (length s)) q ∙ w in
     split full
-    (λ f. simp (h, there (at + 3) (length s) h, o, e, v, there (at + (3 + size)) (length s) w, f))
+    (λ f. simp (h, not-above (at + 3) (length s) h, o, e, v, not-above (at + (3 + size)) (length s) w, f))
     (λ f. split good
-    (λ g. simp (h, there (at + 3) (length s) h, o, e, v, there (at + (3 + size)) (length s) w, f, g))
-    (λ g. simp (h, there (at + 3) (length s) h, o, e, v, there (at + (3 + size)) (length s) w, f, g))))
+    (λ g. simp (h, not-above (at + 3) (length s) h, o, e, v, not-above (at + (3 + size)) (length s) w, f, g))
+    (λ g. simp (h, not-above (at + 3) (length s) h, o, e, v, not-above (at + (3 + size)) (length s) w, f, g))))
     (λ w. let v : leb (at + (3 + lengthAt s at)) (length s) ≡ false = ap (λ (k : ℕ). leb (at + (3 + k)) (length s)) q ∙ w in
-    simp (h, there (at + 3) (length s) h, o, e, v, missing (at + (3 + size)) (length s) w)))
-    (λ e. simp (h, there (at + 3) (length s) h, o, e)))
-    (λ o. simp (h, there (at + 3) (length s) h, o)))
-    (λ h. simp (h, missing (at + 3) (length s) h))
+    simp (h, not-above (at + 3) (length s) h, o, e, v, above (at + (3 + size)) (length s) w)))
+    (λ e. simp (h, not-above (at + 3) (length s) h, o, e)))
+    (λ o. simp (h, not-above (at + 3) (length s) h, o)))
+    (λ h. simp (h, above (at + 3) (length s) h))
 
 pub head-codes-in-order : HeadCodesInOrder
 unfolding headGood headCode

@@ -5,8 +5,8 @@ use mathlib.Core.Bool.{Bool, true, false, _&&_, false≢true}
 use mathlib.Core.Logic.{_⊎_, ⊎-elim}
 use mathlib.Core.Path.{_≡_, refl, sym, _∙_}
 use native.Mathlib.Omega.{arith}
-use lib.Dec.{leb}
-use borrow.Author.Tests.{leb-true, leb-false, le-leb}
+use lib.Dec.{leb, ltb}
+use borrow.Author.Tests.{leb-true, leb-false, le-leb, le-ltb, lt-ltb}
 
 -- by cases on a test, with the equation in hand
 pub split : {P : Type 0} (b : Bool) → (b ≡ true → P) → (b ≡ false → P) → P
@@ -30,3 +30,10 @@ leb-same a b c d f g =
     (λ e. split (leb c d)
     (λ h. let x : a ≤ b = g (leb-true c d h) in let y : b < a = leb-false a b e in absurd (omega arith))
     (λ h. e ∙ sym h))
+
+-- what is at most another is not above it, and the other way round
+pub not-above : (a b : ℕ) → leb a b ≡ true → ltb b a ≡ false
+not-above a b e = le-ltb b a (leb-true a b e)
+
+pub above : (a b : ℕ) → leb a b ≡ false → ltb b a ≡ true
+above a b e = lt-ltb b a (leb-false a b e)
