@@ -5,6 +5,7 @@ use mathlib.Core.Logic.{_⊎_, ⊎-elim}
 use mathlib.Core.Option.{Option, none, some}
 use mathlib.Core.Path.{_≡_, refl, sym, ap, _∙_}
 use mathlib.Core.List.{[], _∷_, List·Memᴰ, List·Memᴰ·head, List·Memᴰ·tail}
+use native.Mathlib.Nat.{sub-zero}
 use native.Mathlib.Omega.{arith}
 use lib.Dec.{eqb}
 use Rattle.lists.proofs.Tests.{neither}
@@ -14,11 +15,11 @@ use Rattle.terms.specs.Terms.{capacity, cost}
 use Rattle.terms.proofs.Limits.{limits, cost-low, cost-capacity}
 use Rattle.account.specs.Account.{termsOf, holding, accountSound, creditAt, costOf, toppedUp, debited}
 use Rattle.account.specs.Step.{StepReport, stepReported, Stepped, stepped, policed}
-use Rattle.account.specs.Claims.{SoundLimits, StepsApart, StepAnswers, RefusedStepKeeps, ShortStepTopsUp, ForwardedStepTakesCost, StepIsTopUpAndDebit, FullTopUp, StepBelowCapacity, Reports, RefusedStepReports, Idle, RefusedMethodsIdle}
+use Rattle.account.specs.Claims.{SoundLimits, StepsApart, StepAnswers, RefusedStepKeeps, ShortStepTopsUp, ForwardedStepTakesCost, StepIsTopUpAndDebit, FullTopUp, StepBelowCapacity, SoundMethods, Reports, RefusedStepReports, Idle, RefusedMethodsIdle}
 use Rattle.account.specs.declared.Account.{Account}
 use Rattle.account.specs.declared.Outcome.{Outcome}
 use Rattle.account.specs.declared.Outcome.the-variants.{Forwarded, Short, Late, Refused}
-use Rattle.account.proofs.Methods.{sound-limits, sound-credit, sound-by, capacity-not, credit-at-high, credit-at-full, top-up-unsound, top-up-late, top-up-sound, cost-refused, cost-unsound, cost-sound, debit-enough, debit-short}
+use Rattle.account.proofs.Methods.{sound-limits, sound-credit, sound-by, capacity-is, capacity-not, credit-at-high, credit-at-full, top-up-unsound, top-up-late, top-up-sound, cost-refused, cost-unsound, cost-sound, debit-enough, debit-short}
 use Rattle.account.proofs.Step.{by-step}
 
 pub sound-within : SoundLimits
@@ -150,14 +151,18 @@ refused-step-reports a n t =
     (λ _ _ _ _. (λ e. absurd (omega arith), none-of 9 (λ e. omega arith) (λ e. omega arith) (λ e. omega arith)))
     (λ _ _ _ _. (λ e. absurd (omega arith), none-of 0 (λ e. omega arith) (λ e. omega arith) (λ e. omega arith)))
 
+-- a debit of nothing
+debit-idle : (a : Account) (n : ℕ) → 0 ≡ costOf a n → debited a n ≡ a
+debit-idle a n e = sym (debit-enough a n 0 e (omega arith) a (ap (λ (c : ℕ). holding a c (a .last)) (sym (sub-zero (a .credit)))))
+
 -- where the step refuses, the methods rest
 pub refused-methods-idle : RefusedMethodsIdle
 refused-methods-idle a n t =
     by-step a n t (λ q. Idle a n t (q .says .code))
     (λ m. length-refuses n m (Idle a n t) (by-octets 1 m (λ e. omega arith) (λ e. omega arith)) (by-octets 2 m (λ e. omega arith) (λ e. omega arith)))
     (λ z v. (
-      λ _. sym (cost-unsound a n v),
-      λ _. (sym (capacity-not a v), sym (cost-unsound a n v), sym (top-up-unsound a t v)),
+      λ _. (sym (cost-unsound a n v), debit-idle a n (cost-unsound a n v)),
+      λ _. (sym (capacity-not a v), sym (cost-unsound a n v), sym (top-up-unsound a t v), debit-idle a n (cost-unsound a n v)),
       λ e. absurd (omega arith),
     ))
     (λ _ v l. (neither 8 1 2 (λ e. omega arith) (λ e. omega arith), λ e. absurd (omega arith), λ _. sym (top-up-late a t v l)))
@@ -165,4 +170,9 @@ refused-methods-idle a n t =
     (λ _ _ _ _. (neither 0 1 2 (λ e. omega arith) (λ e. omega arith), λ e. absurd (omega arith), λ e. absurd (omega arith)))
   where
     by-octets : (x : ℕ) → (lengthCode n ≡ 0 → ⊥) → (x ≡ 10 → ⊥) → (x ≡ 8 → ⊥) → Idle a n t x
-    by-octets x m f g = (λ _. sym (cost-refused a n _ refl m), λ e. absurd (f e), λ e. absurd (g e))
+    by-octets x m f g =
+        let c = cost-refused a n _ refl m in
+        (λ _. (sym c, debit-idle a n c), λ e. absurd (f e), λ e. absurd (g e))
+
+pub sound-methods : SoundMethods
+sound-methods a n t v = (sym (capacity-is a v), λ z. sym (cost-sound a n z v), λ h. sym (top-up-sound a t v h _ refl _ refl))

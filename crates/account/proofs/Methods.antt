@@ -33,7 +33,7 @@ module _ (a : Account) where
   unfolding capacityOf
   capacity-not v = simp v
 
-  capacity-is : accountSound a ≡ true → capacity (termsOf a) ≡ capacityOf a
+  pub capacity-is : accountSound a ≡ true → capacity (termsOf a) ≡ capacityOf a
   unfolding capacityOf
   capacity-is v = simp v
 

@@ -8,6 +8,7 @@ use mathlib.Core.Path.{_≡_}
 use mathlib.Core.List.{List, [], _∷_, List·Memᴰ}
 use lib.Dec.{ltb}
 use Rattle.lists.specs.Lines.{Line, line, firstFit}
+use Rattle.frame.specs.Frame.{lengthCode}
 use Rattle.terms.specs.Terms.{termsGood, capacity, cost}
 use Rattle.account.specs.Account.{termsOf, holding, accountSound, creditAt, capacityOf, costOf, toppedUp, debited}
 use Rattle.account.specs.Step.{StepReport, stepReported, policed}
@@ -92,9 +93,17 @@ RefusedStepReports = (a : Account) (n t : ℕ) → Reports a t (policed a n t .s
 -- a method gives 0, or changes nothing, where the step refuses what that method is given
 abbrev pub Idle : Account → ℕ → ℕ → ℕ → Type 0
 Idle a n t code =
-    ((code ≡ 1) ⊎ (code ≡ 2) → costOf a n ≡ 0)
-    × (code ≡ 10 → (capacityOf a ≡ 0) × (costOf a n ≡ 0) × (toppedUp a t ≡ a))
+    ((code ≡ 1) ⊎ (code ≡ 2) → (costOf a n ≡ 0) × (debited a n ≡ a))
+    × (code ≡ 10 → (capacityOf a ≡ 0) × (costOf a n ≡ 0) × (toppedUp a t ≡ a) × (debited a n ≡ a))
     × (code ≡ 8 → toppedUp a t ≡ a)
 
 abbrev pub RefusedMethodsIdle : Type 0
 RefusedMethodsIdle = (a : Account) (n t : ℕ) → Idle a n t (policed a n t .says .code)
+
+-- a sound account's methods give the formulas' values; for a frame's octets, and for a time not before the last
+abbrev pub SoundMethods : Type 0
+SoundMethods =
+    (a : Account) (n t : ℕ) → accountSound a ≡ true
+    → (capacityOf a ≡ capacity (termsOf a))
+    × (lengthCode n ≡ 0 → costOf a n ≡ cost (termsOf a) n)
+    × (a .last ≤ t → toppedUp a t ≡ holding a (creditAt a t) t)

@@ -149,7 +149,7 @@ call-bench-table r long =
 
 pub meant-limits : MeantLimits
 unfolding meant foundIn numberAt termsGood leading termsAt linkAt portsSound sizesSound linkSound accountGood numberRises linkGood fieldOffset constantGood fieldCode headGood headCode inOrder dataOctets isFull valuesGood nextCode goodField goodAccounts goodLinks readEnd readImage
-meant-limits = (refl, refl, refl)
+meant-limits = (refl, refl, refl, refl)
 
 -- case 12: the one call of a list, from any load as from these tables
 abbrev code-of : Config → State → ℕ → ℕ

@@ -94,7 +94,8 @@ IsolationOfFreshTables =
     → SameAnswers s a (configIn s r) (stateIn r) h (configIn s r′) (stateIn r′) h′
 
 -- whether frames are meant for account 0, on image P with 0 for its link's number: to number 0, one of 5 octets, the last of
--- the number missing, is not; of 6 and of 63 they are; one to number 7 is not. One of 63 to number 0 is not meant for account 1
+-- the number missing, is not; of 6 and of 63 they are; one to number 7 is not. One of 63 to number 0 is not meant for account 1.
+-- Constant field, port and time play no part
 abbrev pub zeroImageP : List ℕ
 zeroImageP = set imageP 21 0
 
@@ -106,6 +107,7 @@ MeantLimits =
     (readImage zeroImageP ≡ answerP)
     × (map (meant zeroImageP 0) (destined 0 5 ∷ destined 0 6 ∷ destined 0 63 ∷ destined 7 63 ∷ []) ≡ false ∷ true ∷ true ∷ false ∷ [])
     × (meant zeroImageP 1 (destined 0 63) ≡ false)
+    × (meant zeroImageP 0 (callOf (9 ∷ 8 ∷ 7 ∷ 6 ∷ 0 ∷ 0 ∷ []) 31 5) ≡ true)
 
 -- ---- the whole of it, with the rule read literally, the allowance by mode (document 02, Q-3) and the claim for lists of
 -- policing steps

@@ -5,13 +5,16 @@ use mathlib.Core.Path.{_≡_, refl, sym, ap, _∙_}
 use mathlib.Core.List.{List, [], _∷_, _++_, append-assoc, List·Memᴰ·head, List·Memᴰ·tail}
 use native.Mathlib.Nat.{zero-add}
 use native.Mathlib.Omega.{arith}
+use lib.Dec.{ltb}
+use Rattle.lists.specs.Lines.{firstFit}
+use Rattle.lists.proofs.Tests.{split}
 use lib.ListN.{length, getD, take, drop, length-append, length-drop}
 use lib.Seq.{length-take-le, take-at, drop-at, getD-at}
 use Rattle.octets.specs.Numbers.{numberAt}
 use Rattle.octets.specs.Spelled.{spelled, Fit}
 use Rattle.octets.proofs.Spelled.{spelled-reads, length-spelled}
 use Rattle.frame.specs.Frame.{lengthCode, linkNumber, sequenceNumber, sequenceOffset, headerOf, payloadStart, payloadOf, payloadPlace}
-use Rattle.frame.specs.Claims.{LengthLimits, ReadingAnswers, ReadingRefused, PayloadLength, headParts, frameOf, FrameRead, FrameReadsBack, FrameFigures}
+use Rattle.frame.specs.Claims.{LengthLimits, ReadingCodes, ReadingAnswers, ReadingRefused, PayloadLength, headParts, frameOf, FrameRead, FrameReadsBack, FrameFigures}
 use Rattle.frame.specs.declared.Header.{Header}
 use Rattle.frame.proofs.Frame.{by-length, within, length-good, header-code, header-refused, header-read, payload-refused, payload-read}
 
@@ -21,6 +24,10 @@ reading-answers f =
     (λ _ e. List·Memᴰ·tail (List·Memᴰ·head (header-code f ∙ e)))
     (λ _ _ e. List·Memᴰ·tail (List·Memᴰ·tail (List·Memᴰ·head (header-code f ∙ e))))
     (λ _ _ e. List·Memᴰ·head (header-code f ∙ e))
+
+pub reading-codes : ReadingCodes
+unfolding firstFit lengthCode headerOf
+reading-codes f = split (ltb (length f) 64) (λ e. simp e) (λ e. split (ltb 1518 (length f)) (λ d. simp (e, d)) (λ d. simp (e, d)))
 
 pub reading-refused : ReadingRefused
 reading-refused f place h =

@@ -1,8 +1,11 @@
--- What holds of frame reading for any octets whatsoever (document 01, "The frame"); proved in proofs/Claims.antt.
+-- What holds of frame reading for any octets, and of frames spelled from their values (document 01, "The frame"); proved in
+-- proofs/Claims.antt.
 use Prim.Native.Nat.{ℕ, _+_, _≤_}
 use mathlib.Core.List.{List, [], _∷_, _++_, List·Memᴰ}
 use mathlib.Core.Path.{_≡_}
 use lib.ListN.{length}
+use lib.Dec.{ltb}
+use Rattle.lists.specs.Lines.{line, firstFit}
 use Rattle.octets.specs.Spelled.{Part, part, spelled, Fit}
 use Rattle.frame.specs.Frame.{lengthCode, constantField, linkNumber, sequenceFromEnd, headerOf, payloadStart, payloadOf, payloadPlace}
 
@@ -13,6 +16,10 @@ LengthLimits = (lengthCode 63 ≡ 1) × (lengthCode 64 ≡ 0) × (lengthCode 151
 -- demand 1: the codes that frame reading can give
 abbrev pub ReadingAnswers : Type 0
 ReadingAnswers = (f : List ℕ) → List·Memᴰ (headerOf f .code) (0 ∷ 1 ∷ 2 ∷ [])
+
+-- the code of frame reading, line by line
+abbrev pub ReadingCodes : Type 0
+ReadingCodes = (f : List ℕ) → headerOf f .code ≡ firstFit (line 1 (ltb (length f) 64) ∷ line 2 (ltb 1518 (length f)) ∷ [])
 
 -- a refused frame has no link, no sequence number and no payload; its part stands where the frame starts
 abbrev pub ReadingRefused : Type 0

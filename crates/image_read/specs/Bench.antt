@@ -64,8 +64,13 @@ CutImages =
     map (λ n. answered (take n imageP)) (2 ∷ 3 ∷ 7 ∷ 8 ∷ 10 ∷ 11 ∷ 16 ∷ 17 ∷ 20 ∷ 32 ∷ 35 ∷ [])
     ≡ (20, 0) ∷ (20, 0) ∷ (20, 0) ∷ (20, 8) ∷ (20, 8) ∷ (20, 8) ∷ (20, 8) ∷ (20, 17) ∷ (20, 17) ∷ (20, 17) ∷ (20, 33) ∷ []
 
+-- the link names account 1, and has number 1,500, whose octets would pass for that account's Smax
+abbrev pub unknownAccount : List ℕ
+unknownAccount = set (set (altered 32 1) 20 5) 21 220
+
 -- one octet altered. 21: tags 2, 3, 9 and 2 in place of 1, 2, 3 and 9, and an unknown one; 22: each field's length; 23: edition 2,
--- constant field 02.., Smax 63, k 8, J 10,228, mode 4; port 32, mask 0, smallest 63, largest 201, account 1
+-- constant field 02.., Smax 63, k 8, J 10,228, mode 4; port 32, mask 0, smallest 63, largest 201, and an account that
+-- the image doesn't have
 abbrev pub FaultyImages : Type 0
 FaultyImages =
     (map answered (altered 0 2 ∷ altered 8 3 ∷ altered 17 9 ∷ altered 33 2 ∷ altered 8 4 ∷ [])
@@ -74,7 +79,7 @@ FaultyImages =
     ≡ (22, 0) ∷ (22, 8) ∷ (22, 17) ∷ (22, 33) ∷ [])
     × (map answered (altered 3 2 ∷ altered 4 2 ∷ altered 12 63 ∷ altered 13 8 ∷ altered 14 39 ∷ altered 16 4 ∷ [])
     ≡ (23, 0) ∷ (23, 0) ∷ (23, 8) ∷ (23, 8) ∷ (23, 8) ∷ (23, 8) ∷ [])
-    × (map answered (altered 22 32 ∷ altered 26 0 ∷ altered 28 63 ∷ altered 30 201 ∷ altered 32 1 ∷ [])
+    × (map answered (altered 22 32 ∷ altered 26 0 ∷ altered 28 63 ∷ altered 30 201 ∷ unknownAccount ∷ [])
     ≡ (23, 17) ∷ (23, 17) ∷ (23, 17) ∷ (23, 17) ∷ (23, 17) ∷ [])
 
 -- two faults at once: of a wrong tag and a wrong length 21; a wrong tag with too few octets left 20; a wrong length and data cut 22; data

@@ -19,7 +19,8 @@ use Rattle.receive.specs.Lent.{timeWord, numberWord, awaitingWord, deliv
 abbrev pub threeRows : List ℕ
 threeRows = 1 ∷ 2 ∷ 3 ∷ 4 ∷ 5 ∷ 6 ∷ 7 ∷ 8 ∷ 9 ∷ 10 ∷ 11 ∷ 12 ∷ 1 ∷ 2 ∷ 13 ∷ 14 ∷ 15 ∷ 16 ∷ []
 
--- their SkewMax; the rows that are found with three memories, the first of two with one number; 515 and 3 stand elsewhere
+-- their SkewMax; the rows that are found with three memories, the first of two with one number; 515 stands at
+-- another offset, 3 nowhere
 abbrev pub SkewRowFigures : Type 0
 SkewRowFigures =
     (map (skewIn threeRows) (0 ∷ 1 ∷ 2 ∷ []) ≡ 50595078 ∷ 151653132 ∷ 219025168 ∷ [])

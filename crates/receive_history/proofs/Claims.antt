@@ -3,10 +3,10 @@ use Rattle.lists.proofs.Claims.{picked-answers}
 use Rattle.receive.proofs.Claims.{possible-answers, refused-keeps, unknown-exactly, row-is-first, row-is-nowhere, rows-beyond, answers-by-memory, later-delivery-is-none, changes-own-memory, time-and-number-stored, by-own-memory}
 use Rattle.receive.proofs.Figures.{skew-row-figures, skew-row-reads, rows-in-use-exactly, memory-figures}
 use Rattle.receive_answer.proofs.Claims.{answers-apart, reception-numbers, answers-exactly, later-counts-as-none, answers-in-figures}
-use Rattle.receive_sequence.proofs.Claims.{pass-table, passes-exactly}
+use Rattle.receive_sequence.proofs.Claims.{numbers-are-octets, pass-table, passes-exactly}
 use Rattle.receive_history.specs.Claims.{ReceivingEnd}
 use Rattle.receive_history.proofs.Counts.{one-copy-each}
-use Rattle.receive_history.proofs.Figures.{history-in-figures}
+use Rattle.receive_history.proofs.Figures.{history-in-figures, zeros-are-empty}
 use Rattle.receive_history.proofs.Isolation.{receptions-apart-from-any, receptions-apart}
 use Rattle.receive_history.proofs.Meeting.{others-in-words, copies-in-words, copy-meets-delivery, met-once, alone-delivered}
 use Rattle.receive_history.proofs.Rule.{rule-of-receptions, rule-of-next}
@@ -34,8 +34,10 @@ receiving-end =
       changes-own-memory = changes-own-memory;
       time-and-number-stored = time-and-number-stored;
       by-own-memory = by-own-memory;
+      numbers-are-octets = numbers-are-octets;
       pass-table = pass-table;
       passes-exactly = passes-exactly;
+      zeros-are-empty = zeros-are-empty;
       rule = rule-of-receptions;
       history-in-figures = history-in-figures;
       rule-of-next = rule-of-next;

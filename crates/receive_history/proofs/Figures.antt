@@ -1,10 +1,10 @@
 -- A history in figures: by the rule, computed. Assumes nothing.
-use Prim.Native.Nat.{ℕ, _<_}
+use Prim.Native.Nat.{ℕ, zero, suc, _<_}
 use mathlib.Core.Bool.{Bool, true, _&&_}
 use mathlib.Core.List.{List, [], _∷_, map, List·Memᴰ, List·Memᴰ·not-nil, List·Memᴰ·cases-cons}
 use mathlib.Core.Logic.{⊎-elim}
 use mathlib.Core.Path.{_≡_, refl, sym, ap, _∙_, subst}
-use lib.ListN.{length}
+use lib.ListN.{length, getD, replicate}
 use lib.Dec.{ltb}
 use borrow.Author.Tests.{ltb-true}
 use Rattle.lists.specs.History.{answers}
@@ -16,10 +16,10 @@ use Rattle.rows.specs.Rows.{foundIn}
 use Rattle.receive_sequence.specs.Sequence.{numberCount, next, passes}
 use Rattle.receive_answer.specs.Answer.{receptionCode, inSkew, receptionBy}
 use Rattle.receive_answer.specs.declared.Arrival.{Arrival}
-use Rattle.receive.specs.Lent.{skewIn, rowsInUse, rowFound}
+use Rattle.receive.specs.Lent.{word, skewIn, rowsInUse, rowFound}
 use Rattle.receive_history.specs.History.{Answered, Octets}
 use Rattle.receive_history.specs.Rule.{newestTime, newestNumber, unmet, ruleOn, ruleAnswer, ruleAnswers}
-use Rattle.receive_history.specs.Figures.{skewTen, framesInFigures, HistoryInFigures}
+use Rattle.receive_history.specs.Figures.{skewTen, framesInFigures, HistoryInFigures, ZerosAreEmpty}
 use Rattle.receive_history.proofs.Rule.{rule-of-receptions}
 
 -- numbers that are octets, by their tests
@@ -43,3 +43,12 @@ history-in-figures r n z =
     (rule-of-receptions skewTen r z framesInFigures (low-octets framesInFigures refl)
     ∙ ap (λ (k : ℕ). ruleAnswers skewTen k framesInFigures) n)
     ∙ by-rule
+
+zeros : (n i : ℕ) → _≡_ {A = ℕ} (getD (replicate n 0) i 0) 0
+zeros zero i = refl
+zeros (suc n) zero = refl
+zeros (suc n) (suc i) = zeros n i
+
+pub zeros-are-empty : ZerosAreEmpty
+unfolding word
+zeros-are-empty rows n j h k l = zeros n _

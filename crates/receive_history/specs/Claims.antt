@@ -5,7 +5,7 @@ use mathlib.Core.Path.{_≡_}
 use lib.ListN.{length}
 use Rattle.lists.specs.Claims.{PickedAnswers}
 use Rattle.receive_answer.specs.declared.Arrival.{Arrival}
-use Rattle.receive_sequence.specs.Claims.{PassTable, PassesExactly}
+use Rattle.receive_sequence.specs.Claims.{NumbersAreOctets, PassTable, PassesExactly}
 use Rattle.receive.specs.Claims.{PossibleAnswers, RefusedKeeps, UnknownExactly, RowIsFirst, RowIsNowhere}
 use Rattle.receive.specs.Claims.{SkewRowsBeyondUnread, AnswersByMemory, LaterDeliveryIsNone}
 use Rattle.receive.specs.Claims.{ChangesOwnMemory, TimeAndNumberStored, ByOwnMemory}
@@ -13,7 +13,7 @@ use Rattle.receive.specs.Figures.{SkewRowFigures, SkewRowReads, RowsInUseExactl
 use Rattle.receive_answer.specs.Claims.{AnswersApart, ReceptionNumbers, AnswersExactly, LaterCountsAsNone, AnswersInFigures}
 use Rattle.receive_history.specs.History.{frameAnswers, Empty, Octets}
 use Rattle.receive_history.specs.Rule.{ruleAnswers}
-use Rattle.receive_history.specs.Figures.{HistoryInFigures}
+use Rattle.receive_history.specs.Figures.{HistoryInFigures, ZerosAreEmpty}
 use Rattle.receive_history.specs.Isolation.{ReceptionsApartFromAny, ReceptionsApart}
 use Rattle.receive_history.specs.Words.{RuleOfNext, OtherReceptionsInWords, CopiesInWords, CopyMeetsDelivery}
 use Rattle.receive_history.specs.Words.{MetOnce, OneCopyEach, AloneDelivered}
@@ -44,8 +44,10 @@ pub record ReceivingEnd : Type 0 where
   pub changes-own-memory : ChangesOwnMemory
   pub time-and-number-stored : TimeAndNumberStored
   pub by-own-memory : ByOwnMemory
+  pub numbers-are-octets : NumbersAreOctets
   pub pass-table : PassTable
   pub passes-exactly : PassesExactly
+  pub zeros-are-empty : ZerosAreEmpty
   pub rule : RuleOfReceptions
   pub history-in-figures : HistoryInFigures
   pub rule-of-next : RuleOfNext

@@ -2,7 +2,7 @@
 use Prim.Native.Nat.{ℕ}
 use mathlib.Core.List.{List, [], _∷_, map}
 use mathlib.Core.Path.{_≡_}
-use lib.ListN.{length}
+use lib.ListN.{length, replicate}
 use Rattle.receive_answer.specs.Answer.{arrivalOf, receptionCode}
 use Rattle.receive_answer.specs.declared.Arrival.{Arrival}
 use Rattle.receive_answer.specs.declared.Network.the-variants.{A, B}
@@ -28,3 +28,7 @@ HistoryInFigures =
     (r : List ℕ) → length r ≡ 2054 → Empty skewTen r
     → map (λ a. receptionCode (a .says)) (frameAnswers skewTen r framesInFigures)
     ≡ 0 ∷ 8 ∷ 30 ∷ 31 ∷ 31 ∷ 0 ∷ 4 ∷ 31 ∷ 0 ∷ 0 ∷ 0 ∷ 30 ∷ []
+
+-- memories of zeros are empty, however long and whatever the rows
+abbrev pub ZerosAreEmpty : Type 0
+ZerosAreEmpty = (rows : List ℕ) (n : ℕ) → Empty rows (replicate n 0)

@@ -9,8 +9,11 @@ use lib.Dec.{eqb}
 use borrow.Author.Tests.{eqb-true, eq-eqb}
 use Rattle.lists.proofs.Tests.{split}
 use Rattle.receive_sequence.specs.Sequence.{next, passes}
-use Rattle.receive_sequence.specs.Claims.{PassTable, PassesExactly}
+use Rattle.receive_sequence.specs.Claims.{NumbersAreOctets, PassTable, PassesExactly}
 use Rattle.receive_sequence.proofs.Passing.{next-adds, first, some-before}
+
+pub numbers-are-octets : NumbersAreOctets
+numbers-are-octets = (refl, refl)
 
 pub pass-table : PassTable
 unfolding passes next

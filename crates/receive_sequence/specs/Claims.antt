@@ -5,7 +5,11 @@ use mathlib.Core.List.{[], _∷_, map}
 use mathlib.Core.Logic.{_⊎_, _↔_}
 use mathlib.Core.Option.{none, some}
 use mathlib.Core.Path.{_≡_}
-use Rattle.receive_sequence.specs.Sequence.{passes}
+use Rattle.receive_sequence.specs.Sequence.{numberCount, greatestNumber, passes}
+
+-- sequence numbers are octets
+abbrev pub NumbersAreOctets : Type 0
+NumbersAreOctets = (numberCount ≡ 256) × (greatestNumber ≡ 255)
 
 -- which of 0, 1, 2, 3, 253, 254 and 255 pass, first and after 0, 252, 253, 254 and 255
 abbrev pub PassTable : Type 0

@@ -35,7 +35,7 @@ use Rattle.switch_verdict.specs.declared.Verdict.the-variants.{Forwarded, Short
 use Rattle.switch_verdict.specs.Verdict.{Report, report}
 use Rattle.filter.specs.Filter.{frameCode, portCode}
 use Rattle.switch.specs.Call.{State, Call, After, inUseBy, accountsInUse, accountHeld, Decided, kept, stepOn, decided, stored, refusedWith, byLink, called}
-use Rattle.switch.specs.Claims.{CallAnswers, RefusedCallKeeps, LengthAlone, linkLines, rowLines, codeTable, CodesInOrder, InUseExactly, AtTheCount, Effects, RowEffects, CallEffects, StoredBelowCapacity, PortsBeyond, SameInUse, RowsBeyondUnread}
+use Rattle.switch.specs.Claims.{CallAnswers, RefusedCallKeeps, LengthAlone, linkLines, rowLines, codeTable, CodesInOrder, InUseExactly, AtTheCount, Effects, RowEffects, CallEffects, StoredBelowCapacity, PortsBeyond, CallParts, SameInUse, RowsBeyondUnread}
 use Rattle.filter.proofs.Filter.{frame-length, frame-constant, frame-passes, frame-code-high, frame-zero, port-other, port-small, port-large, port-passes, port-code-high, passed-largest}
 use Rattle.switch.proofs.Call.{held-again, decided-unsound, decided-refused, decided-policed, onRow, call-refused, call-row}
 
@@ -369,3 +369,6 @@ module _ (g : Config) (s : State) (g′ : Config) (s′ : State) (e : SameInUse 
 
 pub rows-beyond-unread : RowsBeyondUnread
 rows-beyond-unread g s g′ s′ e f = alike g s g′ s′ e f
+
+pub call-parts : CallParts
+call-parts credits lasts octets port time says = (refl, refl, refl, refl, refl, refl, refl)

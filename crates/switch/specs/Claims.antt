@@ -20,8 +20,8 @@ use Rattle.rows.specs.declared.Found.{Found}
 use Rattle.rows.specs.declared.Found.the-variants.{At, Nowhere}
 use Rattle.tables.specs.declared.Link.{Link}
 use Rattle.filter.specs.Filter.{frameCode}
-use Rattle.switch_verdict.specs.Verdict.{report}
-use Rattle.switch.specs.Call.{State, stateOf, Call, After, accountsInUse, accountHeld, decided, refusedWith, called}
+use Rattle.switch_verdict.specs.Verdict.{Report, report}
+use Rattle.switch.specs.Call.{State, stateOf, Call, callOf, After, afterOf, accountsInUse, accountHeld, decided, refusedWith, called}
 
 -- demand 1: a call's code is one of the table's, 0 to 10
 abbrev pub CallAnswers : Type 0
@@ -125,6 +125,14 @@ abbrev pub PortsBeyond : Type 0
 PortsBeyond =
     (g : Config) (s : State) (f : Call) → portCount ≤ f .port
     → (called g s f .says .code ≡ 10) ⊎ ((1 ≤ called g s f .says .code) × (called g s f .says .code ≤ 5))
+
+-- ---- what a call is lent, given and leaves, each part by its name
+abbrev pub CallParts : Type 0
+CallParts =
+    (credits lasts octets : List ℕ) (port time : ℕ) (says : Report)
+    → (stateOf credits lasts .credits ≡ credits) × (stateOf credits lasts .lasts ≡ lasts)
+    × (callOf octets port time .octets ≡ octets) × (callOf octets port time .port ≡ port) × (callOf octets port time .time ≡ time)
+    × (afterOf says (stateOf credits lasts) .says ≡ says) × (afterOf says (stateOf credits lasts) .state ≡ stateOf credits lasts)
 
 -- ---- what plays no part: rows beyond those in use. Tables that agree in the constant field and in the rows in use answer alike
 pub record SameInUse (g : Config) (s : State) (g′ : Config) (s′ : State) : Type 0 where

@@ -10,7 +10,7 @@ use Rattle.octets.proofs.Spelled.{spelled-reads, length-spelled, read-at, octet
 use Rattle.rows.specs.Rows.{Rows, foundIn}
 use Rattle.rows.proofs.Finding.{first-found, none-found, found-same}
 use Rattle.tables.specs.Rows.{termsAt, linkAt, linkTable, linkIn, linksInUse}
-use Rattle.tables.specs.Claims.{accountParts, AccountReadsBack, linkParts, LinkReadsBack, RowFigures, FindsFirst, FindsNone}
+use Rattle.tables.specs.Claims.{ConfigParts, SettingsParts, accountParts, AccountReadsBack, linkParts, LinkReadsBack, RowFigures, FindsFirst, FindsNone}
 use Rattle.tables.proofs.Rows.{terms-read, link-read}
 use Rattle.tables.specs.declared.Link.{Link}
 
@@ -60,3 +60,9 @@ link-reads-back l before after fit =
 pub row-figures : RowFigures
 unfolding numberAt termsAt linkAt
 row-figures = (refl, refl)
+
+pub config-parts : ConfigParts
+config-parts c accounts n links m = (refl, refl, refl, refl, refl)
+
+pub settings-parts : SettingsParts
+settings-parts c n m accounts links = (refl, refl, refl, refl)

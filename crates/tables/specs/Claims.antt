@@ -1,5 +1,5 @@
--- What holds of rows spelled from their values (document 01, "The configuration image", the table), and of the search for a
--- link's number; proved in proofs/Claims.antt.
+-- What holds of rows spelled from their values (document 01, "The configuration image", the table), of the search for a link's
+-- number, and of what a call is lent; proved in proofs/Claims.antt.
 use Prim.Native.Nat.{ℕ, _<_}
 use mathlib.Core.List.{List, [], _∷_, _++_}
 use mathlib.Core.Path.{_≡_}
@@ -8,7 +8,8 @@ use Rattle.octets.specs.Spelled.{Part, part, spelled, Fit}
 use Rattle.rows.specs.declared.Found.the-variants.{At, Nowhere}
 use Rattle.terms.specs.declared.Terms.{Terms}
 use Rattle.tables.specs.declared.Link.{Link}
-use Rattle.tables.specs.Rows.{accountOctets, linkOctets, accountTable, linkTable, accountIn, linkIn, linksInUse, termsAt, linkAt, found}
+use Rattle.tables.specs.Rows.{accountOctets, linkOctets, accountTable, linkTable, accountIn, linkIn, linksInUse, termsAt, linkAt}
+use Rattle.tables.specs.Rows.{found, configOf, settingsOf, configFor}
 
 -- ---- a row spelled from any values reads back as these, whatever stands before and after it
 -- an account: Smax (2), k (1), J (2), mode (1)
@@ -60,3 +61,19 @@ abbrev pub FindsNone : Type 0
 FindsNone =
     (links : List ℕ) (count x : ℕ) → found links count x ≡ Nowhere
     → (j : ℕ) → j < linksInUse links count → linkIn (linkTable links) j .number ≡ x → ⊥
+
+-- ---- what a call is lent of tables and settings, each part by its name
+abbrev pub ConfigParts : Type 0
+ConfigParts =
+    (c : ℕ) (accounts : List ℕ) (n : ℕ) (links : List ℕ) (m : ℕ)
+    → (configOf c accounts n links m .constant ≡ c)
+    × (configOf c accounts n links m .accounts ≡ accounts)
+    × (configOf c accounts n links m .accountCount ≡ n)
+    × (configOf c accounts n links m .links ≡ links)
+    × (configOf c accounts n links m .linkCount ≡ m)
+
+abbrev pub SettingsParts : Type 0
+SettingsParts =
+    (c n m : ℕ) (accounts links : List ℕ)
+    → (settingsOf c n m .constant ≡ c) × (settingsOf c n m .accounts ≡ n) × (settingsOf c n m .links ≡ m)
+    × (configFor (settingsOf c n m) accounts links ≡ configOf c accounts n links m)

@@ -7,7 +7,7 @@ use lib.Dec.{lit≤}
 use borrow.Author.Tests.{eq-eqb, ne-eqb}
 use Rattle.lists.proofs.Tests.{split}
 use Rattle.terms.specs.Terms.{termsGood, bag, added, charge, rate, capacity, byOctets, charged, cost, checkedCapacity, checkedCost}
-use Rattle.terms.specs.Claims.{FormulasByMode, CapacityLargest, CostLargest, TermsLimits, CheckedMethods}
+use Rattle.terms.specs.Claims.{BagFigures, FormulasByMode, CapacityLargest, CostLargest, TermsLimits, CheckedMethods}
 use Rattle.terms.proofs.Limits.{limits, are-good-by, added-none, capacity-with, capacity-high, cost-high}
 
 pub formulas-by-mode : FormulasByMode
@@ -15,6 +15,10 @@ unfolding added charge rate capacity byOctets charged cost
 formulas-by-mode s k j =
     let plain : (c w : ℕ) → (c + 0) * w ≡ c * w = λ c w. ap (λ (d : ℕ). d * w) (add-zero c) in
     ((add-zero s, plain s _, λ n. plain n _), (add-zero s, plain s _, λ n. plain s _), (refl, refl, λ n. refl), (refl, refl, λ n. refl))
+
+pub bag-figures : BagFigures
+unfolding bag
+bag-figures = refl
 
 pub capacity-largest : CapacityLargest
 unfolding termsGood bag added charge rate capacity

@@ -36,6 +36,11 @@ CapacityLargest =
     × (map termsGood (map largestTerms (0 ∷ 1 ∷ 2 ∷ 3 ∷ [])) ≡ true ∷ true ∷ true ∷ true ∷ [])
     × (map capacity (map largestTerms (0 ∷ 1 ∷ 2 ∷ 3 ∷ [])) ≡ 209484000 ∷ 209484000 ∷ 212244000 ∷ 212244000 ∷ [])
 
+-- the BAG of every k, in microseconds
+abbrev pub BagFigures : Type 0
+BagFigures =
+    map bag (0 ∷ 1 ∷ 2 ∷ 3 ∷ 4 ∷ 5 ∷ 6 ∷ 7 ∷ []) ≡ 1000 ∷ 2000 ∷ 4000 ∷ 8000 ∷ 16000 ∷ 32000 ∷ 64000 ∷ 128000 ∷ []
+
 -- the largest cost of a frame
 abbrev pub CostLargest : Type 0
 CostLargest =
