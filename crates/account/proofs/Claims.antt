@@ -20,7 +20,7 @@ use Rattle.account.specs.declared.Account.{Account}
 use Rattle.account.specs.declared.Outcome.{Outcome}
 use Rattle.account.specs.declared.Outcome.the-variants.{Forwarded, Short, Late, Refused}
 use Rattle.account.proofs.Methods.{sound-limits, sound-credit, sound-by, capacity-is, capacity-not, credit-at-high, credit-at-full, top-up-unsound, top-up-late, top-up-sound, cost-refused, cost-unsound, cost-sound, debit-enough, debit-short}
-use Rattle.account.proofs.Step.{by-step}
+use Rattle.account.proofs.Step.{Refusal, by-step}
 
 pub sound-within : SoundLimits
 sound-within a = (λ v. (sound-limits a v, sound-credit a v), λ h. sound-by a (h .0) (h .1))
@@ -51,13 +51,26 @@ length-refuses n h P f g =
     (λ _ _ e. rw e g)
     (λ _ _ e. absurd (h e))
 
+-- a refusal's code is 1, 2 or 10
+refuses : (x : ℕ) → Refusal x → (P : ℕ → Type 0) → P 1 → P 2 → P 10 → P x
+refuses x r P f g h = ⊎-elim (λ e. rw e f) (⊎-elim (λ e. rw e g) (λ e. rw e h)) r
+
+-- so it is none of the others
+others : (x : ℕ) → Refusal x → (x ≡ 0 → ⊥) × (x ≡ 8 → ⊥) × (x ≡ 9 → ⊥)
+others x r =
+    refuses x r (λ y. (y ≡ 0 → ⊥) × (y ≡ 8 → ⊥) × (y ≡ 9 → ⊥))
+    (λ e. omega arith, λ e. omega arith, λ e. omega arith)
+    (λ e. omega arith, λ e. omega arith, λ e. omega arith)
+    (λ e. omega arith, λ e. omega arith, λ e. omega arith)
+
 pub step-answers : StepAnswers
 step-answers a n t =
-    by-step a n t (λ q. List·Memᴰ (q .says .code) (0 ∷ 1 ∷ 2 ∷ 8 ∷ 9 ∷ 10 ∷ []))
-    (λ m. length-refuses n m (λ x. List·Memᴰ x (0 ∷ 1 ∷ 2 ∷ 8 ∷ 9 ∷ 10 ∷ []))
-    (List·Memᴰ·tail (List·Memᴰ·head refl))
-    (List·Memᴰ·tail (List·Memᴰ·tail (List·Memᴰ·head refl))))
-    (λ _ _. List·Memᴰ·tail (List·Memᴰ·tail (List·Memᴰ·tail (List·Memᴰ·tail (List·Memᴰ·tail (List·Memᴰ·head refl))))))
+    let P : (ℕ → Type 0) = λ x. List·Memᴰ x (0 ∷ 1 ∷ 2 ∷ 8 ∷ 9 ∷ 10 ∷ []) in
+    let one : P 1 = List·Memᴰ·tail (List·Memᴰ·head refl) in
+    let two : P 2 = List·Memᴰ·tail (List·Memᴰ·tail (List·Memᴰ·head refl)) in
+    by-step a n t (λ q. P (q .says .code))
+    (λ m. length-refuses n m P one two)
+    (λ _ _ x r. refuses x r P one two (List·Memᴰ·tail (List·Memᴰ·tail (List·Memᴰ·tail (List·Memᴰ·tail (List·Memᴰ·tail (List·Memᴰ·head refl)))))))
     (λ _ _ _. List·Memᴰ·tail (List·Memᴰ·tail (List·Memᴰ·tail (List·Memᴰ·head refl))))
     (λ _ _ _ _. List·Memᴰ·tail (List·Memᴰ·tail (List·Memᴰ·tail (List·Memᴰ·tail (List·Memᴰ·head refl)))))
     (λ _ _ _ _. List·Memᴰ·head refl)
@@ -66,7 +79,7 @@ pub refused-step-keeps : RefusedStepKeeps
 refused-step-keeps a n t =
     by-step a n t (λ q. (q .says .code ≡ 0 → ⊥) → (q .says .code ≡ 9 → ⊥) → q .account ≡ a)
     (λ _ _ _. refl)
-    (λ _ _ _ _. refl)
+    (λ _ _ _ _ _ _. refl)
     (λ _ _ _ _ _. refl)
     (λ _ _ _ _ _ nine. absurd (nine refl))
     (λ _ _ _ _ zero _. absurd (zero refl))
@@ -75,7 +88,7 @@ pub short-step-tops-up : ShortStepTopsUp
 short-step-tops-up a n t =
     by-step a n t (λ q. q .says .code ≡ 9 → (q .account ≡ holding a (creditAt a t) t) × (q .says .credit ≡ some (creditAt a t)) × (creditAt a t < cost (termsOf a) n))
     (λ m e. absurd (length-refuses n m (λ x. x ≡ 9 → ⊥) (λ f. omega arith) (λ f. omega arith) e))
-    (λ _ _ e. absurd (omega arith))
+    (λ _ _ x r e. absurd (others x r .2 e))
     (λ _ _ _ e. absurd (omega arith))
     (λ _ _ _ l _. (refl, refl, l))
     (λ _ _ _ _ e. absurd (omega arith))
@@ -87,7 +100,7 @@ forwarded-step-takes-cost a n t =
     × (q .says .credit ≡ some (creditAt a t - cost (termsOf a) n))
     × (cost (termsOf a) n ≤ creditAt a t))
     (λ m e. absurd (m e))
-    (λ _ _ e. absurd (omega arith))
+    (λ _ _ x r e. absurd (others x r .0 e))
     (λ _ _ _ e. absurd (omega arith))
     (λ _ _ _ _ e. absurd (omega arith))
     (λ _ _ _ l _. (refl, refl, l))
@@ -115,7 +128,7 @@ by-reached a n t P i j =
     (λ m. length-refuses n m (λ x. (x ≡ 0) ⊎ (x ≡ 9) → P (stepped (Refused x) a))
     (neither 1 0 9 (λ e. omega arith) (λ e. omega arith))
     (neither 2 0 9 (λ e. omega arith) (λ e. omega arith)))
-    (λ _ _. neither 10 0 9 (λ e. omega arith) (λ e. omega arith))
+    (λ _ _ x r. neither x 0 9 (others x r .0) (others x r .2))
     (λ _ _ _. neither 8 0 9 (λ e. omega arith) (λ e. omega arith))
     (λ z v h l _. i z v h l)
     (λ z v h l _. j z v h l)
@@ -139,14 +152,14 @@ step-below-capacity a n t s =
     omega (arith, credit-at-high a t))
 
 -- a code that is none of 1, 2 and 10
-none-of : (x : ℕ) {P : Type 0} → (x ≡ 1 → ⊥) → (x ≡ 2 → ⊥) → (x ≡ 10 → ⊥) → (x ≡ 1) ⊎ ((x ≡ 2) ⊎ (x ≡ 10)) → P
+none-of : (x : ℕ) {P : Type 0} → (x ≡ 1 → ⊥) → (x ≡ 2 → ⊥) → (x ≡ 10 → ⊥) → Refusal x → P
 none-of x f g h e = absurd (⊎-elim f (⊎-elim g h) e)
 
 pub refused-step-reports : RefusedStepReports
 refused-step-reports a n t =
     by-step a n t (λ q. Reports a t (q .says))
     (λ m. (λ e. absurd (length-refuses n m (λ x. x ≡ 8 → ⊥) (λ f. omega arith) (λ f. omega arith) e), λ _. refl))
-    (λ _ _. (λ e. absurd (omega arith), λ _. refl))
+    (λ _ _ x r. (λ e. absurd (others x r .1 e), λ _. refl))
     (λ _ _ l. (λ _. (refl, l), none-of 8 (λ e. omega arith) (λ e. omega arith) (λ e. omega arith)))
     (λ _ _ _ _. (λ e. absurd (omega arith), none-of 9 (λ e. omega arith) (λ e. omega arith) (λ e. omega arith)))
     (λ _ _ _ _. (λ e. absurd (omega arith), none-of 0 (λ e. omega arith) (λ e. omega arith) (λ e. omega arith)))
@@ -160,10 +173,10 @@ pub refused-methods-idle : RefusedMethodsIdle
 refused-methods-idle a n t =
     by-step a n t (λ q. Idle a n t (q .says .code))
     (λ m. length-refuses n m (Idle a n t) (by-octets 1 m (λ e. omega arith) (λ e. omega arith)) (by-octets 2 m (λ e. omega arith) (λ e. omega arith)))
-    (λ z v. (
+    (λ z v x r. (
       λ _. (sym (cost-unsound a n v), debit-idle a n (cost-unsound a n v)),
       λ _. (sym (capacity-not a v), sym (cost-unsound a n v), sym (top-up-unsound a t v), debit-idle a n (cost-unsound a n v)),
-      λ e. absurd (omega arith),
+      λ e. absurd (others x r .1 e),
     ))
     (λ _ v l. (neither 8 1 2 (λ e. omega arith) (λ e. omega arith), λ e. absurd (omega arith), λ _. sym (top-up-late a t v l)))
     (λ _ _ _ _. (neither 9 1 2 (λ e. omega arith) (λ e. omega arith), λ e. absurd (omega arith), λ e. absurd (omega arith)))

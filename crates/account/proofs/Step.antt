@@ -1,6 +1,7 @@
 -- Laws of the policing step, case by case. Assumes nothing.
 use Prim.Native.Nat.{ℕ, _-_, _≤_, _<_}
 use mathlib.Core.Bool.{true, false}
+use mathlib.Core.Logic.{_⊎_, inl, inr}
 use mathlib.Core.Path.{_≡_, refl, sym, ap₂, _∙_}
 use lib.Dec.{ltb, leb, eqb}
 use borrow.Author.Tests.{lt-ltb, le-ltb, lt-leb, le-leb, eq-eqb, ne-eqb, eqb-true, eqb-false, ltb-true, ltb-false, leb-true, leb-false}
@@ -20,17 +21,12 @@ module _ (a : Account) (n t : ℕ) where
   unfolding policed
   police-length r e h = simp (e, ne-eqb (lengthCode n) 0 (rw e at h))
 
-  module _ (z : lengthCode n ≡ 0) where
-    pub police-unsound : accountSound a ≡ false → stepped (Refused 10) a ≡ policed a n t
-    unfolding policed
-    police-unsound v = simp (eq-eqb _ _ z, v)
-
-    module _ (v : accountSound a ≡ true) where
-      -- the capacity c and the cost x in hand
-      pub police-judged : (c x : ℕ) → c ≡ capacity (termsOf a) → x ≡ checkedCost (termsOf a) n → judgedAt a c x t ≡ policed a n t
-      unfolding policed
-      police-judged c x p q =
-          ap₂ (λ (f y : ℕ). judgedAt a f y t) p (q ∙ sym (cost-kept (termsOf a) (sound-limits a v) n z)) ∙ simp (eq-eqb _ _ z, v)
+  -- the capacity c and the cost x in hand
+  pub police-judged : lengthCode n ≡ 0 → accountSound a ≡ true → (c x : ℕ) → c ≡ capacity (termsOf a) → x ≡ checkedCost (termsOf a) n
+      → judgedAt a c x t ≡ policed a n t
+  unfolding policed
+  police-judged z v c x p q =
+      ap₂ (λ (f y : ℕ). judgedAt a f y t) p (q ∙ sym (cost-kept (termsOf a) (sound-limits a v) n z)) ∙ simp (eq-eqb _ _ z, v)
 
 -- ---- a frame that costs x, of an account of capacity c
 module _ (a : Account) (c x t : ℕ) where
@@ -48,17 +44,22 @@ module _ (a : Account) (c x t : ℕ) where
     unfolding judgedAt judged
     judged-forwarded l = simp (le-ltb _ _ h, ← p, le-leb x w l)
 
+-- a code of a refusal that comes with no credit
+abbrev pub Refusal : ℕ → Type 0
+Refusal x = (x ≡ 1) ⊎ ((x ≡ 2) ⊎ (x ≡ 10))
+
 module _ (a : Account) (n t : ℕ) where
-  -- by cases: what holds of each answer, and of the step where it is that answer
+  -- by cases: what holds of each answer, and of the step where it is that answer; an unsound account is refused by some such code
   pub by-step : (P : Stepped → Type 0)
       → ((lengthCode n ≡ 0 → ⊥) → P (stepped (Refused (lengthCode n)) a))
-      → (lengthCode n ≡ 0 → accountSound a ≡ false → P (stepped (Refused 10) a))
+      → (lengthCode n ≡ 0 → accountSound a ≡ false → (x : ℕ) → Refusal x → P (stepped (Refused x) a))
       → (lengthCode n ≡ 0 → accountSound a ≡ true → t < a .last → P (stepped (Late (a .credit)) a))
       → (lengthCode n ≡ 0 → accountSound a ≡ true → a .last ≤ t → creditAt a t < cost (termsOf a) n
       → P (stepped (Short (creditAt a t)) (holding a (creditAt a t) t)))
       → (lengthCode n ≡ 0 → accountSound a ≡ true → a .last ≤ t → cost (termsOf a) n ≤ creditAt a t
       → P (stepped (Forwarded (creditAt a t - cost (termsOf a) n)) (holding a (creditAt a t - cost (termsOf a) n) t)))
       → P (policed a n t)
+  unfolding policed
   by-step P f g h i j =
       split (eqb (lengthCode n) 0)
       (λ e. let z = eqb-true _ _ e in
@@ -73,11 +74,11 @@ module _ (a : Account) (n t : ℕ) where
       split (leb x (creditAt a t))
       (λ m. rw (← s, ← judged-forwarded a full x t k _ refl (leb-true _ _ m)) (j z v k (leb-true _ _ m)))
       (λ m. rw (← s, ← judged-short a full x t k _ refl (leb-false _ _ m)) (i z v k (leb-false _ _ m)))))
-      (λ v. rw (← police-unsound a n t z v) (g z v)))
+      (λ v. simp (e, v) (g z v _ (search (inl, inr)))))
       (λ e. let m = eqb-false _ _ e in rw (← police-length a n t (lengthCode n) refl m) (f m))
 
   -- a step changes the credit and the last time alone
   pub policed-keeps : holding a (policed a n t .account .credit) (policed a n t .account .last) ≡ policed a n t .account
   policed-keeps =
       by-step (λ q. holding a (q .account .credit) (q .account .last) ≡ q .account)
-      (λ _. refl) (λ _ _. refl) (λ _ _ _. refl) (λ _ _ _ _. refl) (λ _ _ _ _. refl)
+      (λ _. refl) (λ _ _ _ _. refl) (λ _ _ _. refl) (λ _ _ _ _. refl) (λ _ _ _ _. refl)

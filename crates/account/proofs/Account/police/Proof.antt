@@ -1,10 +1,11 @@
 -- `police`: the length, the account, and then what is decided. Assumes nothing.
 use Prim.Native.Nat.{ℕ}
 use mathlib.Core.Path.{_≡_, sym, ap, _∙_}
+use borrow.Author.Tests.{eq-eqb}
 use Rattle.frame.specs.Frame.{lengthCode}
-use Rattle.account.specs.Step.{stepped}
+use Rattle.account.specs.Step.{stepped, policed}
 use Rattle.account.proofs.Methods.{none-unsound, some-sound, some-capacity}
-use Rattle.account.proofs.Step.{police-length, police-unsound, police-judged}
+use Rattle.account.proofs.Step.{police-length, police-judged}
 use borrow.Author.Needs.{needs}
 use Rattle.account.proofs.Account.police.Statement.{statement}
 use Rattle.account.proofs.Account.police.Tie as tie
@@ -23,7 +24,12 @@ capacity-requires : tie.Need-capacity-requires
 capacity-requires c κs = search needs
 
 returns-2 : tie.Need-returns-2
-returns-2 c = search (police-unsound, good, none-unsound)
+unfolding policed
+returns-2 c =
+    simp (
+      eq-eqb _ _ (good _ _ (c .before .before .before .length-code .ensures) (c .before .before .if1 .left)),
+      none-unsound _ _ (c .before .capacity .ensures) (c .if2 .taken),
+    )
 
 cost-requires : tie.Need-cost-requires
 cost-requires c κs = search needs
