@@ -4,17 +4,18 @@ use Rattle.codes.proofs.Claims.{code-figures}
 use Rattle.octets.proofs.Claims.{reads-back, writes-back}
 use Rattle.rows.proofs.Claims.{rows-in-use, first-row-counts}
 use Rattle.fields.proofs.Claims.{field-reads-back, field-is-spelled, field-figures}
-use Rattle.frame.proofs.Claims.{length-limits, payload-length, reading-answers, reading-refused, frame-reads-back, frame-figures}
-use Rattle.terms.proofs.Claims.{capacity-largest, cost-largest, formulas-by-mode, terms-limits, checked-methods}
-use Rattle.account.proofs.Claims.{forwarded-step-takes-cost, refused-methods-idle, refused-step-keeps, refused-step-reports, short-step-tops-up, step-answers, step-is-top-up-and-debit, steps-apart, sound-within}
+use Rattle.frame.proofs.Claims.{reading-codes, length-limits, payload-length, reading-answers, reading-refused, frame-reads-back, frame-figures}
+use Rattle.terms.proofs.Claims.{bag-figures, capacity-largest, cost-largest, formulas-by-mode, terms-limits, checked-methods}
+use Rattle.account.proofs.Claims.{forwarded-step-takes-cost, refused-methods-idle, refused-step-keeps, refused-step-reports, short-step-tops-up, step-answers, step-is-top-up-and-debit, steps-apart, sound-within, sound-methods}
 use Rattle.account.proofs.Codes.{step-codes-in-order}
 use Rattle.account_rule.proofs.Bench.{bench-table}
 use Rattle.account_rule.proofs.Bucket.{rule-read}
 use Rattle.account_rule.proofs.Counted.{steps-reached}
 use Rattle.account_rule.proofs.Rule.{allowance-by-mode, rule-of-steps, steps-in-words}
-use Rattle.tables.proofs.Claims.{account-reads-back, link-reads-back, row-figures, finds-first, finds-none}
+use Rattle.tables.proofs.Claims.{account-reads-back, link-reads-back, row-figures, config-parts, settings-parts, finds-first, finds-none}
 use Rattle.tables_rules.proofs.Claims.{link-sound-exactly, port-bits, numbers-rise, rows-good-exactly, link-accepted, link-refused, sizes-within-smax}
-use Rattle.image_layout.proofs.Claims.{constant-limits, image-figures}
+use Rattle.image_layout.proofs.Claims.{constant-limits, constant-by-first, image-figures}
+use Rattle.image_fill.proofs.Claims.{run-parts}
 use Rattle.image_field.proofs.Claims.{head-codes-in-order, next-codes-in-order, tags-in-order, fields-by-tag}
 use Rattle.image_read.proofs.Bench.{image-p-reads, case-thirteen, cut-images, faulty-images, two-faults}
 use Rattle.image_read.proofs.Claims.{accepted-ends, read-codes, read-field-by-field, read-answers}
@@ -24,7 +25,7 @@ use Rattle.image_load.proofs.Fresh.{fresh-holds, fresh-sound, load-accepts, loa
 use Rattle.image_load.proofs.Prefix.{prefix-load}
 use Rattle.image_write.proofs.Claims.{counts-exactly, first-bad-account, first-bad-constant, first-bad-link, image-length, refused-write-keeps, write-accepts, write-codes, write-offsets, write-refuses, writes-image}
 use Rattle.image_round_trip.proofs.RoundTrips.{accepted-is-image, image-is-accepted, read-write, write-read}
-use Rattle.switch.proofs.Claims.{at-the-count, call-answers, call-effects, codes-in-order, in-use-exactly, length-alone, ports-beyond, refused-call-keeps, rows-beyond-unread}
+use Rattle.switch.proofs.Claims.{at-the-count, call-answers, call-parts, call-effects, codes-in-order, in-use-exactly, length-alone, ports-beyond, refused-call-keeps, rows-beyond-unread}
 use Rattle.switch_verdict.proofs.Claims.{verdicts-apart}
 use Rattle.replay_words.proofs.Claims.{digits-read-back, no-leading-zero, digit-figures, word-figures}
 use Rattle.replay_text.proofs.Claims.{lines-fit, lines-by-verdict, sheet-lines, other-lines}
@@ -37,7 +38,7 @@ use Rattle.demands.proofs.Isolation.{isolation, isolation-of-fresh-tabl
 use Rattle.demands.proofs.Rule.{rule-of-fresh-tables}
 use Rattle.demands.proofs.Words.{others-in-words, rule-in-words, rule-of-history, ten-never}
 use Rattle.demands.specs.Demand1.{Answers, RefusalsKeep, Demand1}
-use Rattle.demands.specs.Figures.{Formats, Values, Figures}
+use Rattle.demands.specs.Figures.{Formats, Parts, Values, Figures}
 use Rattle.demands.specs.Replay.{Replay}
 use Rattle.demands.specs.Demand2.{RoundTrips, Verdicts, Images, Demand2}
 use Rattle.demands.specs.Demand3.{Demand3}
@@ -148,12 +149,17 @@ formats =
       rows = row-figures;
     }
 
+pub parts : Parts
+parts = record { config = config-parts; settings = settings-parts; runs = run-parts; call = call-parts }
+
 pub values : Values
 values =
     record {
       terms = terms-limits;
       checked = checked-methods;
       sound = sound-within;
+      sound-methods = sound-methods;
+      bags = bag-figures;
       formulas = formulas-by-mode;
       capacity = capacity-largest;
       cost = cost-largest;
@@ -171,14 +177,17 @@ figures =
     record {
       formats = formats;
       values = values;
+      parts = parts;
       codes = code-figures;
       first-fits = first-fits;
       lengths = length-limits;
+      reading = reading-codes;
       payload = payload-length;
       rows-in-use = rows-in-use;
       first-row = first-row-counts;
       image = image-figures;
       constants = constant-limits;
+      constants-by-first = constant-by-first;
       image-p = image-p-reads;
       case-thirteen = case-thirteen;
       cut-images = cut-images;

@@ -6,13 +6,15 @@ use Rattle.lists.specs.Claims.{FirstFits}
 use Rattle.octets.specs.Claims.{ReadsBack, WritesBack}
 use Rattle.rows.specs.Claims.{RowsInUse, FirstRowCounts}
 use Rattle.fields.specs.Claims.{FieldReadsBack, FieldSpelled, FieldFigures}
-use Rattle.frame.specs.Claims.{LengthLimits, PayloadLength, FrameReadsBack, FrameFigures}
-use Rattle.terms.specs.Claims.{FormulasByMode, CapacityLargest, CostLargest, TermsLimits, CheckedMethods}
-use Rattle.account.specs.Claims.{SoundLimits}
+use Rattle.frame.specs.Claims.{LengthLimits, ReadingCodes, PayloadLength, FrameReadsBack, FrameFigures}
+use Rattle.terms.specs.Claims.{BagFigures, FormulasByMode, CapacityLargest, CostLargest, TermsLimits, CheckedMethods}
+use Rattle.account.specs.Claims.{SoundLimits, SoundMethods}
 use Rattle.account_rule.specs.Bench.{BenchTable}
-use Rattle.tables.specs.Claims.{AccountReadsBack, LinkReadsBack, RowFigures}
+use Rattle.tables.specs.Claims.{AccountReadsBack, LinkReadsBack, RowFigures, ConfigParts, SettingsParts}
 use Rattle.tables_rules.specs.Claims.{LinkSoundExactly, PortBits, NumbersRise, RowsGoodExactly, SizesWithinSmax, LinkRefused, LinkAccepted}
-use Rattle.image_layout.specs.Claims.{ImageFigures, ConstantLimits}
+use Rattle.image_layout.specs.Claims.{ImageFigures, ConstantLimits, ConstantByFirst}
+use Rattle.image_fill.specs.Claims.{RunParts}
+use Rattle.switch.specs.Claims.{CallParts}
 use Rattle.image_read.specs.Bench.{ImagePReads, CaseThirteen, CutImages, FaultyImages, TwoFaults}
 use Rattle.demands.specs.Bench.{CallBenchTable, CaseTwelve}
 
@@ -30,11 +32,20 @@ pub record Formats : Type 0 where
   pub links-read : LinkReadsBack
   pub rows : RowFigures
 
+-- what calls are lent and leave, each part by its name
+pub record Parts : Type 0 where
+  pub config : ConfigParts
+  pub settings : SettingsParts
+  pub runs : RunParts
+  pub call : CallParts
+
 -- the value rules and the formulas ("Accounts and links"; "Credit, in whole units")
 pub record Values : Type 0 where
   pub terms : TermsLimits
   pub checked : CheckedMethods
   pub sound : SoundLimits
+  pub sound-methods : SoundMethods
+  pub bags : BagFigures
   pub formulas : FormulasByMode
   pub capacity : CapacityLargest
   pub cost : CostLargest
@@ -50,14 +61,17 @@ pub record Values : Type 0 where
 pub record Figures : Type 0 where
   pub formats : Formats
   pub values : Values
+  pub parts : Parts
   pub codes : CodeFigures
   pub first-fits : FirstFits
   pub lengths : LengthLimits
+  pub reading : ReadingCodes
   pub payload : PayloadLength
   pub rows-in-use : RowsInUse
   pub first-row : FirstRowCounts
   pub image : ImageFigures
   pub constants : ConstantLimits
+  pub constants-by-first : ConstantByFirst
   pub image-p : ImagePReads
   pub case-thirteen : CaseThirteen
   pub cut-images : CutImages
