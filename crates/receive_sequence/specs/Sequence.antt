@@ -12,7 +12,7 @@ numberCount = 256
 abbrev pub greatestNumber : ℕ
 greatestNumber = 255
 
--- what follows the greatest: 0 never comes again
+-- what follows the greatest: 1, not 0
 abbrev pub afterGreatest : ℕ
 afterGreatest = 1
 
