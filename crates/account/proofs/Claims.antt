@@ -15,7 +15,7 @@ use Rattle.terms.specs.Terms.{capacity, cost}
 use Rattle.terms.proofs.Limits.{limits, cost-low, cost-capacity}
 use Rattle.account.specs.Account.{termsOf, holding, accountSound, creditAt, costOf, toppedUp, debited}
 use Rattle.account.specs.Step.{StepReport, stepReported, Stepped, stepped, policed}
-use Rattle.account.specs.Claims.{SoundLimits, StepsApart, StepAnswers, RefusedStepKeeps, ShortStepTopsUp, ForwardedStepTakesCost, StepIsTopUpAndDebit, FullTopUp, StepBelowCapacity, SoundMethods, Reports, RefusedStepReports, Idle, RefusedMethodsIdle}
+use Rattle.account.specs.Claims.{SoundLimits, StepsApart, StepAnswers, RefusedStepKeeps, ShortStepTopsUp, ForwardedStepTakesCost, StepIsTopUpAndDebit, FullTopUp, StepBelowCapacity, SoundMethods, Reports, RefusedStepReports, Idle, RefusedMethodsIdle, MethodsHandBack}
 use Rattle.account.specs.declared.Account.{Account}
 use Rattle.account.specs.declared.Outcome.{Outcome}
 use Rattle.account.specs.declared.Outcome.the-variants.{Forwarded, Short, Late, Refused}
@@ -189,3 +189,6 @@ refused-methods-idle a n t =
 
 pub sound-methods : SoundMethods
 sound-methods a n t v = (sym (capacity-is a v), λ z. sym (cost-sound a n z v), λ h. sym (top-up-sound a t v h _ refl _ refl))
+
+pub methods-hand-back : MethodsHandBack
+methods-hand-back x a = (refl, refl)

@@ -11,8 +11,13 @@ use Rattle.lists.proofs.Tests.{split, both}
 use Rattle.frame.specs.Frame.{lengthCode}
 use Rattle.terms.specs.Terms.{termsGood, rate, capacity, cost, checkedCapacity, checkedCost}
 use Rattle.terms.proofs.Limits.{limits, capacity-low}
-use Rattle.account.specs.Account.{termsOf, holding, accountSound, creditAt, creditUpTo, capacityOf, costOf, toppedUp, debited}
+use Rattle.account.specs.Account.{termsOf, holding, accountSound, creditAt, creditUpTo, capacityOf, costOf, measured, toppedUp, debited}
 use Rattle.account.specs.declared.Account.{Account}
+use Rattle.account.specs.declared.Measured.{Measured}
+
+-- the number of what capacity and cost hand back
+pub units-is : (q : Measured) (x : ℕ) (b : Account) → q ≡ record { units = x; account = b } → q .units ≡ x
+units-is q x b e = ap (λ (w : Measured). w .units) e
 
 module _ (a : Account) where
   -- ---- a sound account
@@ -46,10 +51,10 @@ module _ (a : Account) where
       (λ e. split (leb (a .credit) 0) (λ l. simp (e, l)) (λ l. simp (e, l)))
 
   module _ (full : ℕ) (f : full ≡ checkedCapacity (termsOf a)) where
-    pub credit-over : full < a .credit → 0 ≡ capacityOf a
+    pub credit-over : full < a .credit → measured 0 a ≡ measured (capacityOf a) a
     credit-over h = rw (← capacity-by) (simp (← f, lt-leb _ _ h))
 
-    pub credit-within : a .credit ≤ full → full ≡ capacityOf a
+    pub credit-within : a .credit ≤ full → measured full a ≡ measured (capacityOf a) a
     credit-within h = rw (← capacity-by) (simp (← f, le-leb _ _ h))
 
   -- ---- what the capacity's answer says
@@ -125,9 +130,16 @@ module _ (a : Account) where
     unfolding costOf
     cost-sound z v = simp (eq-eqb _ _ z, v)
 
-    pub cost-checked : accountSound a ≡ true → checkedCost (termsOf a) n ≡ costOf a n
+    cost-checked : accountSound a ≡ true → checkedCost (termsOf a) n ≡ costOf a n
     unfolding checkedCost costOf
     cost-checked v = split (eqb (lengthCode n) 0) (λ z. simp (z, v, sound-limits v)) (λ z. simp (z, sound-limits v))
+
+    module _ (full : ℕ) (f : full ≡ capacityOf a) where
+      pub cost-none : full ≡ 0 → measured 0 a ≡ measured (costOf a n) a
+      cost-none z = ap (λ (x : ℕ). measured x a) (cost-unsound (none-unsound full f z))
+
+      pub cost-some : (full ≡ 0 → ⊥) → (x : ℕ) → x ≡ checkedCost (termsOf a) n → measured x a ≡ measured (costOf a n) a
+      cost-some h x e = ap (λ (y : ℕ). measured y a) (e ∙ cost-checked (some-sound full f h))
 
     module _ (x : ℕ) (e : x ≡ costOf a n) where
       pub debit-short : a .credit < x → a ≡ debited a n

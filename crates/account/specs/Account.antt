@@ -8,6 +8,7 @@ use Rattle.frame.specs.Frame.{lengthCode}
 use Rattle.terms.specs.Terms.{termsGood, rate, capacity, cost}
 use Rattle.terms.specs.declared.Terms.{Terms}
 use Rattle.account.specs.declared.Account.{Account}
+use Rattle.account.specs.declared.Measured.{Measured}
 
 -- the configured values of an account, and the account of such values with a credit and a last time
 abbrev pub termsOf : Account → Terms
@@ -43,6 +44,10 @@ capacityOf a = if accountSound a then capacity (termsOf a) else 0
 
 unfoldable pub costOf : Account → ℕ → ℕ
 costOf a n = if eqb (lengthCode n) Codes.success && accountSound a then cost (termsOf a) n else 0
+
+-- what capacity and cost hand back: the number x, and the account as it was ("Each place and its form")
+abbrev pub measured : ℕ → Account → Measured
+measured x a = record { units = x; account = a }
 
 unfoldable pub toppedUp : Account → ℕ → Account
 toppedUp a t = if accountSound a && leb (a .last) t then holding a (creditAt a t) t else a

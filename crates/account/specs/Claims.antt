@@ -10,7 +10,7 @@ use lib.Dec.{ltb}
 use Rattle.lists.specs.Lines.{Line, line, firstFit}
 use Rattle.frame.specs.Frame.{lengthCode}
 use Rattle.terms.specs.Terms.{termsGood, capacity, cost}
-use Rattle.account.specs.Account.{termsOf, holding, accountSound, creditAt, capacityOf, costOf, toppedUp, debited}
+use Rattle.account.specs.Account.{termsOf, holding, accountSound, creditAt, capacityOf, costOf, measured, toppedUp, debited}
 use Rattle.account.specs.Step.{StepReport, stepReported, policed}
 use Rattle.account.specs.declared.Account.{Account}
 use Rattle.account.specs.declared.Outcome.{Outcome}
@@ -107,3 +107,7 @@ SoundMethods =
     → (capacityOf a ≡ capacity (termsOf a))
     × (lengthCode n ≡ 0 → costOf a n ≡ cost (termsOf a) n)
     × (a .last ≤ t → toppedUp a t ≡ holding a (creditAt a t) t)
+
+-- capacity and cost hand back their number, and the account as it was ("Each place and its form")
+abbrev pub MethodsHandBack : Type 0
+MethodsHandBack = (x : ℕ) (a : Account) → (measured x a .units ≡ x) × (measured x a .account ≡ a)

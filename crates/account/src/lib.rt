@@ -3,7 +3,7 @@
 // changes an account that is lent.
 ghost use mathlib.Core.Path.{_≡_};
 ghost use Prim.Native.Nat.{_+_, _*_, _≤_, min};
-ghost use Rattle.account.specs.Account.{holding, creditUpTo, capacityOf, costOf, toppedUp, debited};
+ghost use Rattle.account.specs.Account.{holding, creditUpTo, capacityOf, costOf, measured, toppedUp, debited};
 ghost use Rattle.account.specs.Step.{stepped, steppedOf, judgedAt, policed};
 use terms::Terms;
 
@@ -15,6 +15,12 @@ pub struct Account {
     pub terms: Terms,
     pub credit: u32,
     pub last: u64,
+}
+
+// What capacity and cost hand back: a number of credit units, and the account that was asked, unchanged.
+pub struct Measured {
+    pub units: u32,
+    pub account: Account,
 }
 
 // The answer of a policing step: forwarded with the credit left, short or late with the credit held, or refused
@@ -89,33 +95,45 @@ impl Account {
         self.holding(self.credit_at(full, time), time)
     }
 
-    // The capacity; 0 where the policing step refuses the account. A sound account has 64 x 1,000 or more, so 0 always
-    // means refused.
-    pub fn capacity(self) -> u32
-        ensures { λ r. ⌜ r ≡ capacityOf self ⌝ }
+    // The capacity, with the account; 0 where the policing step refuses the account. A sound account has 64 x 1,000 or
+    // more, so 0 always means refused.
+    pub fn capacity(self) -> Measured
+        ensures { λ r. ⌜ r ≡ measured (capacityOf self) self ⌝ }
     {
         let full = self.terms.capacity();
         if full < self.credit {
-            return 0;
+            return Measured {
+                units: 0,
+                account: self,
+            };
         }
-        full
+        Measured {
+            units: full,
+            account: self,
+        }
     }
 
-    // The cost of a frame; 0 where the policing step refuses the octets or the account.
-    pub fn cost(self, octets: usize) -> u32
-        ensures { λ r. ⌜ r ≡ costOf self octets ⌝ }
+    // The cost of a frame, with the account; 0 where the policing step refuses the octets or the account.
+    pub fn cost(self, octets: usize) -> Measured
+        ensures { λ r. ⌜ r ≡ measured (costOf self octets) self ⌝ }
     {
-        if self.capacity() == 0 {
-            return 0;
+        if self.capacity().units == 0 {
+            return Measured {
+                units: 0,
+                account: self,
+            };
         }
-        self.terms.cost(octets)
+        Measured {
+            units: self.terms.cost(octets),
+            account: self,
+        }
     }
 
     // The account brought to a time; unchanged where the policing step refuses the account or the time.
     pub fn top_up(self, time: u64) -> Account
         ensures { λ r. ⌜ r ≡ toppedUp self time ⌝ }
     {
-        let full = self.capacity();
+        let full = self.capacity().units;
         if full == 0 {
             return self;
         }
@@ -130,7 +148,7 @@ impl Account {
     pub fn debit(self, octets: usize) -> Account
         ensures { λ r. ⌜ r ≡ debited self octets ⌝ }
     {
-        let cost = self.cost(octets);
+        let cost = self.cost(octets).units;
         if self.credit < cost {
             return self;
         }
@@ -175,7 +193,7 @@ impl Account {
                 account: self,
             };
         }
-        let capacity = self.capacity();
+        let capacity = self.capacity().units;
         if capacity == 0 {
             return Policed {
                 outcome: Outcome::Refused(codes::UNSOUND),

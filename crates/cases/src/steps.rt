@@ -63,13 +63,13 @@ fn cost(mut account: Account, mode: u64, octets: usize) {
     let other = (mode % 256) as u8;
     account.terms.mode = other;
     say::arrow();
-    say::number(account.cost(octets) as u64);
+    say::number(account.cost(octets).units as u64);
 }
 
 // The capacity or, for a line that has octets, their cost.
 fn figure(account: Account, mode: u64, octets: u64) {
     if octets == 0 {
-        say::number(account.capacity() as u64);
+        say::number(account.capacity().units as u64);
     } else {
         cost(account, mode, octets as usize);
     }

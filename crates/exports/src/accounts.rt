@@ -55,7 +55,7 @@ pub extern "C" fn ashthulgo_capacity(smax: u16, k: u8, jitter: u16, mode: u8, cr
     ensures { λ r. ⌜ r ≡ capacityOf (accountWith smax k jitter mode credit 0) ⌝ }
 {
     let account = account_of(smax, k, jitter, mode, credit, 0);
-    account.capacity()
+    account.capacity().units
 }
 
 // The cost of a frame; 0 where a policing step would refuse the account or the octets.
@@ -71,7 +71,7 @@ pub extern "C" fn ashthulgo_cost(
     ensures { λ r. ⌜ r ≡ costOf (accountWith smax k jitter mode credit 0) octets ⌝ }
 {
     let account = account_of(smax, k, jitter, mode, credit, 0);
-    account.cost(octets)
+    account.cost(octets).units
 }
 
 // The account brought to a time: its credit and last time are changed in place.

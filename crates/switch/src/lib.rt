@@ -45,7 +45,7 @@ fn decide(link: Link, used: usize, account: Account, octets: usize, ingress: Ing
     if !tables_rules::link_sound(link, used, account.terms.smax) {
         return kept(codes::UNSOUND, account);
     }
-    let capacity = account.capacity();
+    let capacity = account.capacity().units;
     if capacity == 0 {
         return kept(codes::UNSOUND, account);
     }

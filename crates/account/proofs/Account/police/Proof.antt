@@ -4,7 +4,7 @@ use mathlib.Core.Path.{_≡_, sym, ap, _∙_}
 use borrow.Author.Tests.{eq-eqb}
 use Rattle.frame.specs.Frame.{lengthCode}
 use Rattle.account.specs.Step.{stepped, policed}
-use Rattle.account.proofs.Methods.{none-unsound, some-sound, some-capacity}
+use Rattle.account.proofs.Methods.{units-is, none-unsound, some-sound, some-capacity}
 use Rattle.account.proofs.Step.{police-length, police-judged}
 use borrow.Author.Needs.{needs}
 use Rattle.account.proofs.Account.police.Statement.{statement}
@@ -28,7 +28,7 @@ unfolding policed
 returns-2 c =
     simp (
       eq-eqb _ _ (good _ _ (c .before .before .before .length-code .ensures) (c .before .before .if1 .left)),
-      none-unsound _ _ (c .before .capacity .ensures) (c .if2 .taken),
+      none-unsound _ _ (units-is _ _ _ (c .before .capacity .ensures)) (c .if2 .taken),
     )
 
 cost-requires : tie.Need-cost-requires
@@ -44,8 +44,8 @@ returns-3 : tie.Need-returns-3
 returns-3 c =
     ap (stepped (c .before .judge .result .outcome)) (c .holding .ensures)
     ∙ c .before .judge .ensures
-    ∙ police-judged _ _ _ (good _ _ (c .before .before .before .before .before .before .length-code .ensures) (c .before .before .before .before .before .if1 .left)) (some-sound _ _ (c .before .before .before .before .capacity .ensures) (c .before .before .before .if2 .left)) _ _
-    (some-capacity _ _ (c .before .before .before .before .capacity .ensures) (c .before .before .before .if2 .left)) (c .before .before .cost .ensures)
+    ∙ police-judged _ _ _ (good _ _ (c .before .before .before .before .before .before .length-code .ensures) (c .before .before .before .before .before .if1 .left)) (some-sound _ _ (units-is _ _ _ (c .before .before .before .before .capacity .ensures)) (c .before .before .before .if2 .left)) _ _
+    (some-capacity _ _ (units-is _ _ _ (c .before .before .before .before .capacity .ensures)) (c .before .before .before .if2 .left)) (c .before .before .cost .ensures)
 
 pub police-spec : {M : Type 1} → statement M
 police-spec =
