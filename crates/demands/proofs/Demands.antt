@@ -6,7 +6,7 @@ use Rattle.rows.proofs.Claims.{rows-in-use, first-row-counts}
 use Rattle.fields.proofs.Claims.{field-reads-back, field-is-spelled, field-figures}
 use Rattle.frame.proofs.Claims.{reading-codes, length-limits, payload-length, reading-answers, reading-refused, frame-reads-back, frame-figures}
 use Rattle.terms.proofs.Claims.{bag-figures, capacity-largest, cost-largest, formulas-by-mode, terms-limits, checked-methods}
-use Rattle.account.proofs.Claims.{forwarded-step-takes-cost, refused-methods-idle, refused-step-keeps, refused-step-reports, short-step-tops-up, step-answers, step-is-top-up-and-debit, steps-apart, sound-within, sound-methods}
+use Rattle.account.proofs.Claims.{forwarded-step-takes-cost, refused-methods-idle, refused-step-keeps, refused-step-reports, short-step-tops-up, step-answers, step-is-top-up-and-debit, steps-apart, sound-within, sound-methods, methods-hand-back}
 use Rattle.account.proofs.Codes.{step-codes-in-order}
 use Rattle.account_rule.proofs.Bench.{bench-table}
 use Rattle.account_rule.proofs.Bucket.{rule-read}
@@ -102,6 +102,7 @@ verdicts =
       takes-cost = forwarded-step-takes-cost;
       top-up-and-debit = step-is-top-up-and-debit;
       methods-idle = refused-methods-idle;
+      methods-hand-back = methods-hand-back;
     }
 
 pub images : Images

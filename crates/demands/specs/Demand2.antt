@@ -1,7 +1,7 @@
 -- Demand 2: every answer is the right one. That each call's answer is document 01's is its contract, an equation with the
 -- definition that states it; here are gathered the readings of these definitions that document 01 and document 02's Q-3 settle
 -- by themselves, and the round trips. Proved in proofs/Demands.antt.
-use Rattle.account.specs.Claims.{StepCodesInOrder, ForwardedStepTakesCost, StepIsTopUpAndDebit, RefusedMethodsIdle}
+use Rattle.account.specs.Claims.{StepCodesInOrder, ForwardedStepTakesCost, StepIsTopUpAndDebit, RefusedMethodsIdle, MethodsHandBack}
 use Rattle.tables.specs.Claims.{FindsFirst, FindsNone}
 use Rattle.image_field.specs.Claims.{HeadCodesInOrder, NextCodesInOrder, TagsInOrder, FieldsByTag}
 use Rattle.image_read.specs.Claims.{AcceptedEnds, ReadFieldByField, ReadAnswers, PrefixRead}
@@ -37,6 +37,7 @@ pub record Verdicts : Type 0 where
   pub takes-cost : ForwardedStepTakesCost
   pub top-up-and-debit : StepIsTopUpAndDebit
   pub methods-idle : RefusedMethodsIdle
+  pub methods-hand-back : MethodsHandBack
 
 -- reading, loading and writing an image ("The configuration image")
 pub record Images : Type 0 where
