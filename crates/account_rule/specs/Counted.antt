@@ -1,5 +1,5 @@
--- Which frames the rule's sums are about, and what each counts for (document 01, "The terms of demand 3"): those that were answered
--- 0 or 9, with their cost where the answer was 0. Proved in proofs/Counted.antt.
+-- Which frames the rule's sums are about, and what each counts for (document 01, "The terms of demand 3"): those that were
+-- answered 0 or 9, with their cost where the answer was 0. Proved in proofs/Counted.antt.
 use Prim.Native.Nat.{ℕ, _≤_, _<_}
 use mathlib.Core.Bool.{Bool, true, _||_}
 use mathlib.Core.Path.{_≡_}

@@ -29,7 +29,8 @@ sent n t = callOf (3 ∷ 0 ∷ 0 ∷ 0 ∷ 0 ∷ 7 ∷ replicate (n - 6) 0) 2 t
 abbrev pub calls : List Case → List Call
 calls = map (λ c. sent (c .step .octets) (c .step .time))
 
--- what the cases report, written out: a forwarded frame link 7's mask, port 3, and the credit left; a short or late one the credit
+-- what the cases report, written out: a forwarded frame link 7's mask, port 3, and the credit left; a short or late one the
+-- credit held
 abbrev pub byteVerdicts : List Report
 byteVerdicts =
     report 0 (some 8) (some 100000)

@@ -21,8 +21,8 @@ reachedWith s a x = meant s a (x .0) && reaching (x .1)
 abbrev pub countedIn : List ℕ → ℕ → Call × ℕ → Reached
 countedIn s a x = countedFor (imageTerms s a) (length (x .0 .octets)) (x .0 .time) (x .1)
 
--- the frames that reached account a, the newest first: the rule's list is that of the frames meant for it that were answered 0 or 9,
--- each with its time and, where the answer was 0, its cost
+-- the frames that reached account a, the newest first: the rule's list is that of the frames meant for it that were answered
+-- 0 or 9, each with its time and, where the answer was 0, its cost
 abbrev pub ReachedByAnswers : Type 0
 ReachedByAnswers =
     (s : List ℕ) (r : Runs) → Fresh s r → (h : List Call) (a : ℕ)

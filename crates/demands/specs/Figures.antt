@@ -11,15 +11,16 @@ use Rattle.terms.specs.Claims.{BagFigures, FormulasByMode, CapacityLargest, Cos
 use Rattle.account.specs.Claims.{SoundLimits, SoundMethods}
 use Rattle.account_rule.specs.Bench.{BenchTable}
 use Rattle.tables.specs.Claims.{AccountReadsBack, LinkReadsBack, RowFigures, ConfigParts, SettingsParts}
-use Rattle.tables_rules.specs.Claims.{LinkSoundExactly, PortBits, NumbersRise, RowsGoodExactly, SizesWithinSmax, LinkRefused, LinkAccepted}
+use Rattle.tables_rules.specs.Claims.{LinkSoundExactly, PortBits, NumbersRise, RowsGoodExactly, SizesWithinSmax}
+use Rattle.tables_rules.specs.Claims.{LinkRefused, LinkAccepted}
 use Rattle.image_layout.specs.Claims.{ImageFigures, ConstantLimits, ConstantByFirst}
 use Rattle.image_fill.specs.Claims.{RunParts}
 use Rattle.switch.specs.Claims.{CallParts}
 use Rattle.image_read.specs.Bench.{ImagePReads, CaseThirteen, CutImages, FaultyImages, TwoFaults}
 use Rattle.demands.specs.Bench.{CallBenchTable, CaseTwelve}
 
--- numbers in octets ("What the box covers"), tagged fields ("The configuration image"; "The replay program"), frames ("The frame"),
--- rows of accounts and links: each spelled from its values and read back, and in figures
+-- numbers in octets ("What the box covers"), tagged fields ("The configuration image"; "The replay program"), frames ("The
+-- frame"), rows of accounts and links: each spelled from its values and read back, and in figures
 pub record Formats : Type 0 where
   pub octets-read : ReadsBack
   pub octets-written : WritesBack

@@ -7,7 +7,8 @@ use lib.ListN.{length}
 use lib.Dec.{ltb}
 use Rattle.lists.specs.Lines.{line, firstFit}
 use Rattle.octets.specs.Spelled.{Part, part, spelled, Fit}
-use Rattle.frame.specs.Frame.{lengthCode, constantField, linkNumber, sequenceFromEnd, headerOf, payloadStart, payloadOf, payloadPlace}
+use Rattle.frame.specs.Frame.{lengthCode, constantField, linkNumber, sequenceFromEnd, headerOf}
+use Rattle.frame.specs.Frame.{payloadStart, payloadOf, payloadPlace}
 
 -- the limits at both sides
 abbrev pub LengthLimits : Type 0
@@ -35,13 +36,14 @@ PayloadLength =
     × (length f ≡ 64 → length (payloadOf f) ≡ 45)
     × (length f ≡ 1518 → length (payloadOf f) ≡ 1499)
 
--- ---- a frame spelled from its values reads back: the constant field (4), the virtual link (2), eight octets more of addresses and
--- type, the payload, the sequence number (1) and the frame check sequence (4), whatever those that are not judged are
+-- ---- a frame spelled from its values reads back: the constant field (4), the virtual link (2), eight octets more of addresses
+-- and type, the payload, the sequence number (1) and the frame check sequence (4), whatever those that are not judged are
 abbrev pub headParts : ℕ → ℕ → List Part
 headParts constant link = part 4 constant ∷ part 2 link ∷ []
 
 abbrev pub frameOf : ℕ → ℕ → List ℕ → List ℕ → ℕ → List ℕ → List ℕ
-frameOf constant link between payload sequence check = spelled (headParts constant link) ++ between ++ payload ++ (sequence ∷ check)
+frameOf constant link between payload sequence check =
+    spelled (headParts constant link) ++ between ++ payload ++ (sequence ∷ check)
 
 pub record FrameRead (constant link : ℕ) (payload : List ℕ) (sequence : ℕ) (f : List ℕ) : Type 0 where
   pub constant-field : constantField f ≡ constant

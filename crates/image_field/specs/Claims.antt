@@ -37,7 +37,8 @@ nextAt n m = 8 + 9 * n + 16 * m
 abbrev pub NextCodesInOrder : Type 0
 NextCodesInOrder =
     (s : List ℕ) (n m tag : ℕ) → tag ≡ getD s (nextAt n m) 0
-    → nextCode s n m ≡ firstFit (fieldLines s (nextAt n m) (inOrder tag n m) (dataOctets tag) (isFull tag n m) (valuesGood s tag n m))
+    → nextCode s n m
+    ≡ firstFit (fieldLines s (nextAt n m) (inOrder tag n m) (dataOctets tag) (isFull tag n m) (valuesGood s tag n m))
 
 -- which tags may stand there: first an account; then an account or a link; after a link a link or the end
 abbrev pub TagsInOrder : Type 0

@@ -16,8 +16,8 @@ ImageFigures =
     × (headSize ≡ 8) × (accountSize ≡ 9) × (linkSize ≡ 16) × (tagAndLength ≡ 3)
     × (maxAccounts ≡ 64) × (maxLinks ≡ 256) × (longestImage ≡ 4683) × (imagePrefix ≡ 4696)
 
--- constant fields with zeros after the first octet: 00, 01, 02 and FC lack a low bit, 03, 07 and FF do not; and 00 00 00 03, which
--- has these bits in another octet
+-- constant fields with zeros after the first octet: 00, 01, 02 and FC lack a low bit, 03, 07 and FF do not; and 00 00 00 03,
+-- which has these bits in another octet
 abbrev pub ConstantLimits : Type 0
 ConstantLimits =
     (map constantGood (0 ∷ 1 * 2 ^ 24 ∷ 2 * 2 ^ 24 ∷ 252 * 2 ^ 24 ∷ 3 ∷ []) ≡ false ∷ false ∷ false ∷ false ∷ false ∷ [])

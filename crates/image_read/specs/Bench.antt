@@ -68,9 +68,9 @@ CutImages =
 abbrev pub unknownAccount : List ℕ
 unknownAccount = set (set (altered 32 1) 20 5) 21 220
 
--- one octet altered. 21: tags 2, 3, 9 and 2 in place of 1, 2, 3 and 9, and an unknown one; 22: each field's length; 23: edition 2,
--- constant field 02.., Smax 63, k 8, J 10,228, mode 4; port 32, mask 0, smallest 63, largest 201, and an account that
--- the image doesn't have
+-- one octet altered. 21: tags 2, 3, 9 and 2 in place of 1, 2, 3 and 9, and an unknown one; 22: each field's length; 23: edition
+-- 2, constant field 02.., Smax 63, k 8, J 10,228, mode 4; port 32, mask 0, smallest 63, largest 201, and an account that the image
+-- doesn't have
 abbrev pub FaultyImages : Type 0
 FaultyImages =
     (map answered (altered 0 2 ∷ altered 8 3 ∷ altered 17 9 ∷ altered 33 2 ∷ altered 8 4 ∷ [])
@@ -82,8 +82,8 @@ FaultyImages =
     × (map answered (altered 22 32 ∷ altered 26 0 ∷ altered 28 63 ∷ altered 30 201 ∷ unknownAccount ∷ [])
     ≡ (23, 17) ∷ (23, 17) ∷ (23, 17) ∷ (23, 17) ∷ (23, 17) ∷ [])
 
--- two faults at once: of a wrong tag and a wrong length 21; a wrong tag with too few octets left 20; a wrong length and data cut 22; data
--- cut and a bad value 20; a bad account and a bad link, the account
+-- two faults at once: of a wrong tag and a wrong length 21; a wrong tag with too few octets left 20; a wrong length and data cut
+-- 22; data cut and a bad value 20; a bad account and a bad link, the account
 abbrev pub TwoFaults : Type 0
 TwoFaults =
     map answered

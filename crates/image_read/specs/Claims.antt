@@ -44,8 +44,8 @@ ReadFieldByField = (s : List ℕ) (k : ℕ) → maxAccounts + maxLinks < k → h
 abbrev pub PrefixRead : Type 0
 PrefixRead = (s : List ℕ) → readImage (take imagePrefix s) ≡ readImage s
 
--- ---- every answer with its offset, n good accounts and m good links after them standing after the head: the head's code at 0; the
--- code of the field after them at its first octet; 25 at the first octet after the end; success at the image's length
+-- ---- every answer with its offset, n good accounts and m good links after them standing after the head: the head's code at 0;
+-- the code of the field after them at its first octet; 25 at the first octet after the end; success at the image's length
 pub record Answer (s : List ℕ) (n m : ℕ) : Type 0 where
   pub head : (headCode s ≡ 0 → ⊥) → readImage s ≡ imageRefused (headCode s) 0
   pub field : headCode s ≡ 0 → (nextCode s n m ≡ 0 → ⊥) → readImage s ≡ imageRefused (nextCode s n m) (8 + 9 * n + 16 * m)

@@ -14,7 +14,8 @@ use Rattle.receive_answer.specs.declared.Reception.the-variants.{Delivered, Unk
 use Rattle.receive_sequence.specs.Sequence.{numberCount, passes}
 use Rattle.receive_answer.specs.Answer.{receptionCode, other}
 use Rattle.receive_answer.specs.Claims.{AnsweredBy}
-use Rattle.receive.specs.Lent.{skewRowOctets, skewIn, memoryWords, rowsInUse, rowFound, word, latestTime, lastNumber, awaiting}
+use Rattle.receive.specs.Lent.{skewRowOctets, skewIn, memoryWords, rowsInUse, rowFound, word}
+use Rattle.receive.specs.Lent.{latestTime, lastNumber, awaiting}
 use Rattle.receive.specs.Receive.{received}
 
 -- demand 1: delivered, copy, out of sequence, 4 and 8, and no other

@@ -21,7 +21,8 @@ use Rattle.rows.specs.declared.Found.the-variants.{At, Nowhere}
 use Rattle.tables.specs.declared.Link.{Link}
 use Rattle.filter.specs.Filter.{frameCode}
 use Rattle.switch_verdict.specs.Verdict.{Report, report}
-use Rattle.switch.specs.Call.{State, stateOf, Call, callOf, After, afterOf, accountsInUse, accountHeld, decided, refusedWith, called}
+use Rattle.switch.specs.Call.{State, stateOf, Call, callOf, After, afterOf, accountsInUse, accountHeld, decided}
+use Rattle.switch.specs.Call.{refusedWith, called}
 
 -- demand 1: a call's code is one of the table's, 0 to 10
 abbrev pub CallAnswers : Type 0
@@ -83,7 +84,8 @@ AtTheCount =
 -- ---- what a call reports and leaves, on a link l with account a, so many accounts being in use: demand 1's "a refusal changes
 -- nothing", and the verdict's own data
 pub record Effects (used : ℕ) (s : State) (f : Call) (l : Link) (a : Account) (r : After) : Type 0 where
-  -- 0: forwarded to the link's ports; the account, which is in use, and no other, is topped up, at the frame's time, less the cost
+  -- 0: forwarded to the link's ports; the account, which is in use, and no other, is topped up, at the frame's time, less the
+  -- cost
   pub forwarded : r .says .code ≡ 0
       → (l .account < used)
       × (r .says ≡ report 0 (some (l .mask)) (some (creditAt a (f .time) - cost (termsOf a) (length (f .octets)))))
@@ -107,7 +109,8 @@ pub record Effects (used : ℕ) (s : State) (f : Call) (l : Link) (a : Account) 
 abbrev pub RowEffects : Config → State → Call → Found → After → Type 0
 RowEffects g s f Nowhere r = (r .state ≡ s) × (r .says ≡ report (r .says .code) none none) × ((r .says .code ≡ 0) → ⊥) × (r .says .code ≤ 4)
 RowEffects g s f (At j) r =
-    Effects (accountsInUse g s) s f (linkIn (linkTable (g .links)) j) (accountHeld (g .accounts) s (linkIn (linkTable (g .links)) j .account)) r
+    Effects (accountsInUse g s) s f (linkIn (linkTable (g .links)) j)
+    (accountHeld (g .accounts) s (linkIn (linkTable (g .links)) j .account)) r
 
 abbrev pub CallEffects : Type 0
 CallEffects = (g : Config) (s : State) (f : Call) → RowEffects g s f (found (g .links) (g .linkCount) (linkNumber (f .octets))) (called g s f)

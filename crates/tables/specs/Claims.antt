@@ -8,8 +8,8 @@ use Rattle.octets.specs.Spelled.{Part, part, spelled, Fit}
 use Rattle.rows.specs.declared.Found.the-variants.{At, Nowhere}
 use Rattle.terms.specs.declared.Terms.{Terms}
 use Rattle.tables.specs.declared.Link.{Link}
-use Rattle.tables.specs.Rows.{accountOctets, linkOctets, accountTable, linkTable, accountIn, linkIn, linksInUse, termsAt, linkAt}
-use Rattle.tables.specs.Rows.{found, configOf, settingsOf, configFor}
+use Rattle.tables.specs.Rows.{accountOctets, linkOctets, accountTable, linkTable, accountIn, linkIn, linksInUse}
+use Rattle.tables.specs.Rows.{termsAt, linkAt, found, configOf, settingsOf, configFor}
 
 -- ---- a row spelled from any values reads back as these, whatever stands before and after it
 -- an account: Smax (2), k (1), J (2), mode (1)
@@ -19,12 +19,14 @@ accountParts p = part 2 (p .smax) ∷ part 1 (p .k) ∷ part 2 (p .jitter) ∷ p
 abbrev pub AccountReadsBack : Type 0
 AccountReadsBack =
     (p : Terms) (before after : List ℕ) → Fit (accountParts p)
-    → (termsAt (before ++ spelled (accountParts p) ++ after) (length before) ≡ p) × (length (spelled (accountParts p)) ≡ accountOctets)
+    → (termsAt (before ++ spelled (accountParts p) ++ after) (length before) ≡ p)
+    × (length (spelled (accountParts p)) ≡ accountOctets)
 
 -- a link: number (2), port (1), mask (4), smallest (2), largest (2), account (2)
 abbrev pub linkParts : Link → List Part
 linkParts l =
-    part 2 (l .number) ∷ part 1 (l .port) ∷ part 4 (l .mask) ∷ part 2 (l .smallest) ∷ part 2 (l .largest) ∷ part 2 (l .account) ∷ []
+    part 2 (l .number) ∷ part 1 (l .port) ∷ part 4 (l .mask)
+    ∷ part 2 (l .smallest) ∷ part 2 (l .largest) ∷ part 2 (l .account) ∷ []
 
 abbrev pub LinkReadsBack : Type 0
 LinkReadsBack =

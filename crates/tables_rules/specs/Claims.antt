@@ -21,8 +21,8 @@ LinkSoundExactly =
     ↔ ((l .account < n) × (l .port < 32) × (l .mask ≡ 0 → ⊥) × (l .mask / 2 ^ l .port % 2 ≡ 0)
     × (64 ≤ l .smallest) × (l .smallest ≤ l .largest) × (l .largest ≤ smax))
 
--- bit p is port p's, over all 32 ports: a mask of one bit is refused on that bit's port and on no other; a mask of all bits but one
--- is accepted on that one's port; a mask of all bits is accepted on none
+-- bit p is port p's, over all 32 ports: a mask of one bit is refused on that bit's port and on no other; a mask of all bits but
+-- one is accepted on that one's port; a mask of all bits is accepted on none
 abbrev pub ports : List ℕ
 ports =
     0 ∷ 1 ∷ 2 ∷ 3 ∷ 4 ∷ 5 ∷ 6 ∷ 7 ∷ 8 ∷ 9 ∷ 10 ∷ 11 ∷ 12 ∷ 13 ∷ 14 ∷ 15
