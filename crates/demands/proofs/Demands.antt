@@ -12,13 +12,13 @@ use Rattle.account_rule.proofs.Bench.{bench-table}
 use Rattle.account_rule.proofs.Bucket.{rule-read}
 use Rattle.account_rule.proofs.Counted.{steps-reached}
 use Rattle.account_rule.proofs.Rule.{allowance-by-mode, rule-of-steps, steps-in-words}
-use Rattle.tables.proofs.Claims.{account-reads-back, link-reads-back, row-figures, config-parts, settings-parts, finds-first, finds-none}
+use Rattle.tables.proofs.Claims.{account-reads-back, link-reads-back, row-figures, config-parts, settings-parts, links-in-use-exactly, finds-first, finds-none}
 use Rattle.tables_rules.proofs.Claims.{link-sound-exactly, port-bits, numbers-rise, rows-good-exactly, link-accepted, link-refused, sizes-within-smax}
 use Rattle.image_layout.proofs.Claims.{constant-limits, constant-by-first, image-figures}
 use Rattle.image_fill.proofs.Claims.{run-parts}
 use Rattle.image_field.proofs.Claims.{head-codes-in-order, next-codes-in-order, tags-in-order, fields-by-tag}
 use Rattle.image_read.proofs.Bench.{image-p-reads, case-thirteen, cut-images, faulty-images, two-faults}
-use Rattle.image_read.proofs.Claims.{accepted-ends, read-codes, read-field-by-field, read-answers}
+use Rattle.image_read.proofs.Claims.{accepted-ends, read-codes, read-field-by-field, read-answers, good-fields-exactly}
 use Rattle.image_read.proofs.Prefix.{prefix-read}
 use Rattle.image_load.proofs.Claims.{load-codes, long-enough-exactly, load-refuses, offsets-inside, refused-load-keeps, rows-beyond-kept}
 use Rattle.image_load.proofs.Fresh.{fresh-holds, fresh-sound, load-accepts, load-fresh}
@@ -97,6 +97,7 @@ verdicts =
       in-use = in-use-exactly;
       at-the-count = at-the-count;
       rows-beyond = rows-beyond-unread;
+      links-in-use = links-in-use-exactly;
       finds-first = finds-first;
       finds-none = finds-none;
       takes-cost = forwarded-step-takes-cost;
@@ -114,6 +115,7 @@ images =
       fields-by-tag = fields-by-tag;
       answers = read-answers;
       accepted-ends = accepted-ends;
+      good-fields = good-fields-exactly;
       field-by-field = read-field-by-field;
       long-enough = long-enough-exactly;
       load-accepts = load-accepts;

@@ -3,9 +3,9 @@
 -- by themselves, and the round trips. Proved in proofs/Demands.antt.
 use Rattle.account.specs.Claims.{StepCodesInOrder, ForwardedStepTakesCost, StepIsTopUpAndDebit}
 use Rattle.account.specs.Claims.{RefusedMethodsIdle, MethodsHandBack}
-use Rattle.tables.specs.Claims.{FindsFirst, FindsNone}
+use Rattle.tables.specs.Claims.{LinksInUseExactly, FindsFirst, FindsNone}
 use Rattle.image_field.specs.Claims.{HeadCodesInOrder, NextCodesInOrder, TagsInOrder, FieldsByTag}
-use Rattle.image_read.specs.Claims.{AcceptedEnds, ReadFieldByField, ReadAnswers, PrefixRead}
+use Rattle.image_read.specs.Claims.{AcceptedEnds, GoodFieldsExactly, ReadFieldByField, ReadAnswers, PrefixRead}
 use Rattle.image_load.specs.Claims.{LongEnoughExactly, LoadRefuses, RowsBeyondKept, PrefixLoad}
 use Rattle.image_load.specs.Fresh.{LoadAccepts, LoadFresh, FreshHolds, FreshSound}
 use Rattle.image_write.specs.Claims.{CountsExactly, WriteRefuses, WriteAccepts, WriteOffsets, WritesImage}
@@ -33,6 +33,7 @@ pub record Verdicts : Type 0 where
   pub in-use : InUseExactly
   pub at-the-count : AtTheCount
   pub rows-beyond : RowsBeyondUnread
+  pub links-in-use : LinksInUseExactly
   pub finds-first : FindsFirst
   pub finds-none : FindsNone
   pub takes-cost : ForwardedStepTakesCost
@@ -48,6 +49,7 @@ pub record Images : Type 0 where
   pub fields-by-tag : FieldsByTag
   pub answers : ReadAnswers
   pub accepted-ends : AcceptedEnds
+  pub good-fields : GoodFieldsExactly
   pub field-by-field : ReadFieldByField
   pub long-enough : LongEnoughExactly
   pub load-accepts : LoadAccepts

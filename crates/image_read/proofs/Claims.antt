@@ -8,7 +8,7 @@ use lib.Dec.{eqb}
 use lib.ListN.{length, getD}
 use borrow.Author.Tests.{leb-false, lt-ltb, le-ltb, eq-eqb, ne-eqb, eqb-true}
 use Rattle.lists.specs.Choice.{if_then_else_}
-use Rattle.lists.proofs.Tests.{split}
+use Rattle.lists.proofs.Tests.{split, both}
 use Rattle.tables.specs.Rows.{accountOctets, linkOctets}
 use Rattle.lists.proofs.Leading.{leading-fails}
 use Rattle.fields.specs.Fields.{tagAndLength, fieldAt}
@@ -16,7 +16,7 @@ use Rattle.fields.specs.declared.Field.{Field}
 use Rattle.image_layout.specs.Layout.{headTag, accountTag, linkTag, headSize, accountSize, linkSize, headOctets, fieldOffset, imageLength, maxAccounts, maxLinks, longestImage}
 use Rattle.image_read.specs.Read.{goodField, goodAccounts, goodLinks, readEnd, readImage}
 use Rattle.image_field.specs.Checks.{fieldCode, headGood, headCode, inOrder, dataOctets, isFull, valuesGood, tagAt, nextCode}
-use Rattle.image_read.specs.Claims.{ReadCodes, AcceptedEnds, walked, ReadFieldByField, ReadAnswers}
+use Rattle.image_read.specs.Claims.{ReadCodes, AcceptedEnds, GoodFieldsExactly, walked, ReadFieldByField, ReadAnswers}
 use Rattle.image_read.proofs.Accepted.{Accepted, accepted, head-passes, good-passes, link-first, counted-account, counted-link, some-accounts, some-links, end-tag}
 use Rattle.image_read.proofs.Reading.{few-accounts, few-links, few-read, by-end, by-reading}
 
@@ -259,3 +259,10 @@ read-answers s =
       surplus = λ z e l. simp (eq-eqb (headCode s) 0 z, eq-eqb (nextCode s n m) 0 e, lt-ltb (8 + 9 * n + 16 * m + 3) (length s) l);
       success = λ z e l. simp (eq-eqb (headCode s) 0 z, eq-eqb (nextCode s n m) 0 e, le-ltb (8 + 9 * n + 16 * m + 3) (length s) l);
     }
+
+pub good-fields-exactly : GoodFieldsExactly
+unfolding goodField
+good-fields-exactly s tag n m = (
+  λ e. let b = both (eqb (tagAt s n m) tag) (eqb (nextCode s n m) 0) e in (eqb-true _ _ (b .0), eqb-true _ _ (b .1)),
+  λ h. simp (eq-eqb _ _ (h .0), eq-eqb _ _ (h .1)),
+)

@@ -1,6 +1,8 @@
 -- What holds of reading for any octets whatsoever (document 01, "The configuration image"); proved in proofs/Claims.antt and
 -- proofs/Prefix.antt.
 use Prim.Native.Nat.{ℕ, zero, suc, _+_, _*_, _≤_, _<_}
+use mathlib.Core.Bool.{true}
+use mathlib.Core.Logic.{_↔_}
 use mathlib.Core.Path.{_≡_}
 use mathlib.Core.List.{List, [], _∷_, List·Memᴰ}
 use lib.ListN.{length, take}
@@ -27,6 +29,11 @@ AcceptedEnds =
     × (readImage s .settings .accounts ≤ maxAccounts)
     × (readImage s .settings .links ≤ maxLinks)
     × (length s ≤ longestImage)
+
+-- a field is good, and passed, exactly where it has the tag and no code fits it
+abbrev pub GoodFieldsExactly : Type 0
+GoodFieldsExactly =
+    (s : List ℕ) (tag n m : ℕ) → (goodField s tag n m ≡ true) ↔ ((tagAt s n m ≡ tag) × (nextCode s n m ≡ 0))
 
 -- the same answer field by field: a good account or link is passed, and the first field that is neither ends the reading. From as
 -- many fields on as an image can have, the number k that are looked at never decides; 255 is no code of reading

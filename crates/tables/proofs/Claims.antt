@@ -10,7 +10,7 @@ use Rattle.octets.proofs.Spelled.{spelled-reads, length-spelled, read-at, octet
 use Rattle.rows.specs.Rows.{Rows, foundIn}
 use Rattle.rows.proofs.Finding.{first-found, none-found, found-same}
 use Rattle.tables.specs.Rows.{termsAt, linkAt, linkTable, linkIn, linksInUse}
-use Rattle.tables.specs.Claims.{ConfigParts, SettingsParts, accountParts, AccountReadsBack, linkParts, LinkReadsBack, RowFigures, FindsFirst, FindsNone}
+use Rattle.tables.specs.Claims.{ConfigParts, SettingsParts, accountParts, AccountReadsBack, linkParts, LinkReadsBack, RowFigures, LinksInUseExactly, FindsFirst, FindsNone}
 use Rattle.tables.proofs.Rows.{terms-read, link-read}
 use Rattle.tables.specs.declared.Link.{Link}
 
@@ -18,6 +18,9 @@ use Rattle.tables.specs.declared.Link.{Link}
 pub links-same : (l m : Rows) (n x : ℕ) → ((j : ℕ) → j < n → linkIn l j ≡ linkIn m j) → foundIn l n x ≡ foundIn m n x
 unfolding linkAt
 links-same l m n x h = found-same l m n x (λ j k. ap (λ (w : Link). w .number) (h j k))
+
+pub links-in-use-exactly : LinksInUseExactly
+links-in-use-exactly links count j = (λ h. (omega arith, omega arith), λ h. omega (arith, h .0, h .1))
 
 -- the number that a row begins with is its link's
 pub finds-first : FindsFirst

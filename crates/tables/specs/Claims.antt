@@ -1,7 +1,8 @@
 -- What holds of rows spelled from their values (document 01, "The configuration image", the table), of the search for a link's
 -- number, and of what a call is lent; proved in proofs/Claims.antt.
-use Prim.Native.Nat.{ℕ, _<_}
+use Prim.Native.Nat.{ℕ, _+_, _*_, _≤_, _<_}
 use mathlib.Core.List.{List, [], _∷_, _++_}
+use mathlib.Core.Logic.{_↔_}
 use mathlib.Core.Path.{_≡_}
 use lib.ListN.{length}
 use Rattle.octets.specs.Spelled.{Part, part, spelled, Fit}
@@ -48,7 +49,10 @@ RowFigures =
     × (linkIn (linkTable sampleLinks) 1
     ≡ record { number = 3599; port = 16; mask = 286397204; smallest = 5398; largest = 5912; account = 6426 })
 
--- ---- the search
+-- ---- the search: a row is in use exactly where the count names it and it is lent whole
+abbrev pub LinksInUseExactly : Type 0
+LinksInUseExactly = (links : List ℕ) (count j : ℕ) → (j < linksInUse links count) ↔ ((j < count) × (13 * j + 13 ≤ length links))
+
 
 -- a row that is found is in use, has the number, and is the first that has it
 abbrev pub FindsFirst : Type 0
