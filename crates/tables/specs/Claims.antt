@@ -53,7 +53,6 @@ RowFigures =
 abbrev pub LinksInUseExactly : Type 0
 LinksInUseExactly = (links : List ℕ) (count j : ℕ) → (j < linksInUse links count) ↔ ((j < count) × (13 * j + 13 ≤ length links))
 
-
 -- a row that is found is in use, has the number, and is the first that has it
 abbrev pub FindsFirst : Type 0
 FindsFirst =
