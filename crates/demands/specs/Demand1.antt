@@ -6,7 +6,8 @@ use Rattle.account.specs.Claims.{StepAnswers, RefusedStepKeeps, RefusedStepRepo
 use Rattle.image_read.specs.Claims.{ReadCodes}
 use Rattle.image_load.specs.Claims.{LoadCodes, RefusedLoadKeeps, OffsetsInside}
 use Rattle.image_write.specs.Claims.{WriteCodes, RefusedWriteKeeps}
-use Rattle.switch.specs.Claims.{CallAnswers, RefusedCallKeeps, CallEffects}
+use Rattle.switch.specs.Claims.{CallAnswers, RefusedCallKeeps}
+use Rattle.switch.specs.Effects.{CallEffects}
 use Rattle.switch_verdict.specs.Claims.{VerdictsApart}
 
 -- the codes that each call can answer ("Codes, in order of checking"; "The configuration image"; "The frame")

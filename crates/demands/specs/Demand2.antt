@@ -11,7 +11,9 @@ use Rattle.image_load.specs.Fresh.{LoadAccepts, LoadFresh, FreshHolds, FreshSou
 use Rattle.image_write.specs.Claims.{CountsExactly, WriteRefuses, WriteAccepts, WriteOffsets, WritesImage}
 use Rattle.image_write.specs.Claims.{ImageLength, FirstBadConstant, FirstBadAccount, FirstBadLink}
 use Rattle.image_round_trip.specs.RoundTrips.{AcceptedIsImage, ImageIsAccepted, WriteRead, ReadWrite}
-use Rattle.switch.specs.Claims.{CodesInOrder, CallEffects, LengthAlone, PortsBeyond, InUseExactly, AtTheCount, RowsBeyondUnread}
+use Rattle.switch.specs.Claims.{LengthAlone, PortsBeyond, InUseExactly, AtTheCount, RowsBeyondUnread}
+use Rattle.switch.specs.Effects.{CallEffects}
+use Rattle.switch.specs.Table.{CodesInOrder}
 use Rattle.demands.specs.Figures.{Figures}
 use Rattle.demands.specs.Replay.{Replay}
 

@@ -8,7 +8,7 @@ use lib.Dec.{eqb}
 use lib.ListN.{length, getD}
 use borrow.Author.Tests.{leb-false, lt-ltb, le-ltb, eq-eqb, ne-eqb, eqb-true}
 use Rattle.lists.specs.Choice.{if_then_else_}
-use Rattle.lists.proofs.Tests.{split, both}
+use Rattle.lists.proofs.Tests.{split}
 use Rattle.tables.specs.Rows.{accountOctets, linkOctets}
 use Rattle.lists.proofs.Leading.{leading-fails}
 use Rattle.fields.specs.Fields.{tagAndLength, fieldAt}
@@ -17,7 +17,7 @@ use Rattle.image_layout.specs.Layout.{headTag, accountTag, linkTag, headSize, a
 use Rattle.image_read.specs.Read.{goodField, goodAccounts, goodLinks, readEnd, readImage}
 use Rattle.image_field.specs.Checks.{fieldCode, headGood, headCode, inOrder, dataOctets, isFull, valuesGood, tagAt, nextCode}
 use Rattle.image_read.specs.Claims.{ReadCodes, AcceptedEnds, GoodFieldsExactly, walked, ReadFieldByField, ReadAnswers}
-use Rattle.image_read.proofs.Accepted.{Accepted, accepted, head-passes, good-passes, link-first, counted-account, counted-link, some-accounts, some-links, end-tag}
+use Rattle.image_read.proofs.Accepted.{Accepted, accepted, head-passes, good-passes, link-first, counted-account, counted-link, some-accounts, some-links, end-tag, good-tag, good-code, good-by}
 use Rattle.image_read.proofs.Reading.{few-accounts, few-links, few-read, by-end, by-reading}
 
 -- ---- codes
@@ -261,8 +261,4 @@ read-answers s =
     }
 
 pub good-fields-exactly : GoodFieldsExactly
-unfolding goodField
-good-fields-exactly s tag n m = (
-  λ e. let b = both (eqb (tagAt s n m) tag) (eqb (nextCode s n m) 0) e in (eqb-true _ _ (b .0), eqb-true _ _ (b .1)),
-  λ h. simp (eq-eqb _ _ (h .0), eq-eqb _ _ (h .1)),
-)
+good-fields-exactly s tag n m = (λ e. (good-tag s tag n m e, good-code s tag n m e), λ h. good-by s tag n m (h .0) (h .1))

@@ -35,7 +35,9 @@ use Rattle.switch_verdict.specs.declared.Verdict.the-variants.{Forwarded, Short
 use Rattle.switch_verdict.specs.Verdict.{Report, report}
 use Rattle.filter.specs.Filter.{frameCode, portCode}
 use Rattle.switch.specs.Call.{State, Call, After, inUseBy, accountsInUse, accountHeld, Decided, kept, stepOn, decided, stored, refusedWith, byLink, called}
-use Rattle.switch.specs.Claims.{CallAnswers, RefusedCallKeeps, LengthAlone, linkLines, rowLines, codeTable, CodesInOrder, InUseExactly, AtTheCount, Effects, RowEffects, CallEffects, StoredBelowCapacity, PortsBeyond, CallParts, SameInUse, RowsBeyondUnread}
+use Rattle.switch.specs.Claims.{CallAnswers, RefusedCallKeeps, LengthAlone, InUseExactly, AtTheCount, PortsBeyond, CallParts, SameInUse, RowsBeyondUnread}
+use Rattle.switch.specs.Effects.{Effects, RowEffects, CallEffects, StoredBelowCapacity}
+use Rattle.switch.specs.Table.{linkLines, rowLines, codeTable, CodesInOrder}
 use Rattle.filter.proofs.Filter.{frame-length, frame-constant, frame-passes, frame-code-high, frame-zero, port-other, port-small, port-large, port-passes, port-code-high, passed-largest}
 use Rattle.switch.proofs.Call.{held-again, decided-unsound, decided-refused, decided-policed, onRow, call-refused, call-row}
 

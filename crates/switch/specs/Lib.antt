@@ -1,2 +1,4 @@
 pub mod Call
 pub mod Claims
+pub mod Effects
+pub mod Table
