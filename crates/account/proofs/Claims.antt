@@ -15,7 +15,8 @@ use Rattle.terms.specs.Terms.{capacity, cost}
 use Rattle.terms.proofs.Limits.{limits, cost-low, cost-capacity}
 use Rattle.account.specs.Account.{termsOf, holding, accountSound, creditAt, costOf, toppedUp, debited}
 use Rattle.account.specs.Step.{StepReport, stepReported, Stepped, stepped, policed}
-use Rattle.account.specs.Claims.{SoundLimits, StepsApart, StepAnswers, RefusedStepKeeps, ShortStepTopsUp, ForwardedStepTakesCost, StepIsTopUpAndDebit, FullTopUp, StepBelowCapacity, SoundMethods, Reports, RefusedStepReports, Idle, RefusedMethodsIdle, MethodsHandBack}
+use Rattle.account.specs.Claims.{SoundLimits, StepsApart, StepAnswers, RefusedStepKeeps, ShortStepTopsUp, ForwardedStepTakesCost, StepBelowCapacity, Reports, RefusedStepReports}
+use Rattle.account.specs.Methods.{StepIsTopUpAndDebit, FullTopUp, SoundMethods, Idle, RefusedMethodsIdle, MethodsHandBack}
 use Rattle.account.specs.declared.Account.{Account}
 use Rattle.account.specs.declared.Outcome.{Outcome}
 use Rattle.account.specs.declared.Outcome.the-variants.{Forwarded, Short, Late, Refused}

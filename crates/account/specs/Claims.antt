@@ -1,5 +1,5 @@
--- What holds of the policing step and the methods for any account whatsoever (document 01, "Credit, in whole units" and "Codes,
--- in order of checking"; document 02, Q-2); proved in proofs/Claims.antt.
+-- What holds of the policing step for any account whatsoever (document 01, "Credit, in whole units" and "Codes, in order of
+-- checking"); proved in proofs/Claims.antt and proofs/Codes.antt.
 use Prim.Native.Nat.{ℕ, _-_, _≤_, _<_}
 use mathlib.Core.Bool.{true, not}
 use mathlib.Core.Logic.{_⊎_, _↔_}
@@ -8,9 +8,8 @@ use mathlib.Core.Path.{_≡_}
 use mathlib.Core.List.{List, [], _∷_, List·Memᴰ}
 use lib.Dec.{ltb}
 use Rattle.lists.specs.Lines.{Line, line, firstFit}
-use Rattle.frame.specs.Frame.{lengthCode}
 use Rattle.terms.specs.Terms.{termsGood, capacity, cost}
-use Rattle.account.specs.Account.{termsOf, holding, accountSound, creditAt, capacityOf, costOf, measured, toppedUp, debited}
+use Rattle.account.specs.Account.{termsOf, holding, accountSound, creditAt}
 use Rattle.account.specs.Step.{StepReport, stepReported, policed}
 use Rattle.account.specs.declared.Account.{Account}
 use Rattle.account.specs.declared.Outcome.{Outcome}
@@ -63,18 +62,6 @@ ForwardedStepTakesCost =
     × (policed a n t .says .credit ≡ some (creditAt a t - cost (termsOf a) n))
     × (cost (termsOf a) n ≤ creditAt a t)
 
--- where the step answers 0 or 9 it leaves what a top-up and then a debit leave
-abbrev pub StepIsTopUpAndDebit : Type 0
-StepIsTopUpAndDebit =
-    (a : Account) (n t : ℕ) → (policed a n t .says .code ≡ 0) ⊎ (policed a n t .says .code ≡ 9)
-    → policed a n t .account ≡ debited (toppedUp a t) n
-
--- a top-up of a sound account at capacity, at a time not before its last, stores the time alone (document 02, Q-2)
-abbrev pub FullTopUp : Type 0
-FullTopUp =
-    (a : Account) (t : ℕ) → accountSound a ≡ true → a .credit ≡ capacity (termsOf a) → a .last ≤ t
-    → toppedUp a t ≡ holding a (a .credit) t
-
 -- a step of at most Smax octets, as every frame call's is, leaves less than the capacity where it answers 0 or 9
 abbrev pub StepBelowCapacity : Type 0
 StepBelowCapacity =
@@ -89,25 +76,3 @@ Reports a t w =
 
 abbrev pub RefusedStepReports : Type 0
 RefusedStepReports = (a : Account) (n t : ℕ) → Reports a t (policed a n t .says)
-
--- a method gives 0, or changes nothing, where the step refuses what that method is given
-abbrev pub Idle : Account → ℕ → ℕ → ℕ → Type 0
-Idle a n t code =
-    ((code ≡ 1) ⊎ (code ≡ 2) → (costOf a n ≡ 0) × (debited a n ≡ a))
-    × (code ≡ 10 → (capacityOf a ≡ 0) × (costOf a n ≡ 0) × (toppedUp a t ≡ a) × (debited a n ≡ a))
-    × (code ≡ 8 → toppedUp a t ≡ a)
-
-abbrev pub RefusedMethodsIdle : Type 0
-RefusedMethodsIdle = (a : Account) (n t : ℕ) → Idle a n t (policed a n t .says .code)
-
--- a sound account's methods give the formulas' values; for a frame's octets, and for a time not before the last
-abbrev pub SoundMethods : Type 0
-SoundMethods =
-    (a : Account) (n t : ℕ) → accountSound a ≡ true
-    → (capacityOf a ≡ capacity (termsOf a))
-    × (lengthCode n ≡ 0 → costOf a n ≡ cost (termsOf a) n)
-    × (a .last ≤ t → toppedUp a t ≡ holding a (creditAt a t) t)
-
--- capacity and cost hand back their number, and the account as it was ("Each place and its form")
-abbrev pub MethodsHandBack : Type 0
-MethodsHandBack = (x : ℕ) (a : Account) → (measured x a .units ≡ x) × (measured x a .account ≡ a)

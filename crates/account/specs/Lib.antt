@@ -1,3 +1,4 @@
 pub mod Account
 pub mod Claims
+pub mod Methods
 pub mod Step

@@ -31,7 +31,7 @@ abbrev pub stepsReached : Terms → List StepCall → List ℕ → List Reached
 stepsReached p steps codes =
     reverse (map (λ x. countedFor p (x .0 .octets) (x .0 .time) (x .1)) (only (λ x. reaching (x .1)) (zip steps codes)))
 
--- they are those that the rule sums up, and their times never fall, so that each "time since" is a difference
+-- the steps that the rule sums up are those, and their times never fall, so that each "time since" is the difference of two times
 abbrev pub StepsReached : Type 0
 StepsReached =
     (p : Terms) → termsGood p ≡ true → (steps : List StepCall)

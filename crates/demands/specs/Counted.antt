@@ -29,6 +29,6 @@ ReachedByAnswers =
     → reachedIn s (reverse h) a
     ≡ reverse (map (countedIn s a) (only (reachedWith s a) (zip h (callCodes (callAnswers (configIn s r) (stateIn r) h)))))
 
--- and their times never fall, so that each "time since" of the rule is the difference of two times
+-- the times of the frames that reached an account never fall, so that each "time since" of the rule is the difference of two times
 abbrev pub TimesNeverFall : Type 0
 TimesNeverFall = (s : List ℕ) (past : List Call) (a : ℕ) → NeverFall (reachedIn s past a)

@@ -1,8 +1,8 @@
 -- Demand 2: every answer is the right one. That each call's answer is document 01's is its contract, an equation with the
 -- definition that states it; here are gathered the readings of these definitions that document 01 and document 02's Q-3 settle
 -- by themselves, and the round trips. Proved in proofs/Demands.antt.
-use Rattle.account.specs.Claims.{StepCodesInOrder, ForwardedStepTakesCost, StepIsTopUpAndDebit}
-use Rattle.account.specs.Claims.{RefusedMethodsIdle, MethodsHandBack}
+use Rattle.account.specs.Claims.{StepCodesInOrder, ForwardedStepTakesCost}
+use Rattle.account.specs.Methods.{StepIsTopUpAndDebit, RefusedMethodsIdle, MethodsHandBack}
 use Rattle.tables.specs.Claims.{LinksInUseExactly, FindsFirst, FindsNone}
 use Rattle.image_field.specs.Claims.{HeadCodesInOrder, NextCodesInOrder, TagsInOrder, FieldsByTag}
 use Rattle.image_read.specs.Claims.{AcceptedEnds, GoodFieldsExactly, ReadFieldByField, ReadAnswers, PrefixRead}

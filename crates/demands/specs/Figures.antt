@@ -8,7 +8,8 @@ use Rattle.rows.specs.Claims.{RowsInUse, FirstRowCounts}
 use Rattle.fields.specs.Claims.{FieldReadsBack, FieldSpelled, FieldFigures}
 use Rattle.frame.specs.Claims.{LengthLimits, ReadingCodes, PayloadLength, FrameReadsBack, FrameFigures}
 use Rattle.terms.specs.Claims.{BagFigures, FormulasByMode, CapacityLargest, CostLargest, TermsLimits, CheckedMethods}
-use Rattle.account.specs.Claims.{SoundLimits, SoundMethods}
+use Rattle.account.specs.Claims.{SoundLimits}
+use Rattle.account.specs.Methods.{SoundMethods}
 use Rattle.account_rule.specs.Bench.{BenchTable}
 use Rattle.tables.specs.Claims.{AccountReadsBack, LinkReadsBack, RowFigures, ConfigParts, SettingsParts}
 use Rattle.tables_rules.specs.Claims.{LinkSoundExactly, PortBits, NumbersRise, RowsGoodExactly, SizesWithinSmax}

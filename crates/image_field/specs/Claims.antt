@@ -40,7 +40,7 @@ NextCodesInOrder =
     → nextCode s n m
     ≡ firstFit (fieldLines s (nextAt n m) (inOrder tag n m) (dataOctets tag) (isFull tag n m) (valuesGood s tag n m))
 
--- which tags may stand there: first an account; then an account or a link; after a link a link or the end
+-- which tags may stand after n accounts and m links: first an account; then an account or a link; after a link a link or the end
 abbrev pub TagsInOrder : Type 0
 TagsInOrder =
     (tag n m : ℕ)
