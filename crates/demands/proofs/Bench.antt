@@ -33,7 +33,8 @@ use Rattle.image_round_trip.specs.RoundTrips.{loadedTables}
 use Rattle.filter.specs.Filter.{frameCode, portCode, routed}
 use Rattle.switch_verdict.specs.Verdict.{Report, report}
 use Rattle.switch.specs.Call.{State, stateOf, Call, inUseBy, accountHeld, decided, called}
-use Rattle.demands.specs.History.{callAnswers, finalState, configIn, stateIn}
+use Rattle.switch.specs.History.{callAnswers, finalState}
+use Rattle.demands.specs.History.{configIn, stateIn}
 use Rattle.demands.specs.Rule.{imageTerms, meant}
 use Rattle.demands.specs.Demand3.{MeantLimits}
 use Rattle.demands.specs.Bench.{frameImageP, sent, calls, byteVerdicts, frameVerdicts, stateAfter, CallBenchTable, CaseTwelve}

@@ -23,7 +23,8 @@ use Rattle.image_load.specs.Fresh.{Fresh}
 use Rattle.switch_verdict.specs.Verdict.{Report, reported, withMask}
 use Rattle.switch_verdict.specs.declared.Verdict.the-variants.{Refused}
 use Rattle.switch.specs.Call.{State, Call, accountHeld}
-use Rattle.demands.specs.History.{callsOn, finalState, configIn, stateIn}
+use Rattle.switch.specs.History.{callsOn, finalState}
+use Rattle.demands.specs.History.{configIn, stateIn}
 use Rattle.demands.specs.Rule.{imageTerms, imageLink, linkRow, filterCode, names, destinationOctets, meant, reachedIn}
 use Rattle.demands.specs.Demand3.{Isolation, IsolationOfFreshTables}
 use Rattle.demands.proofs.Tables.{Tables, tables}

@@ -38,7 +38,8 @@ use Rattle.switch.specs.Call.{State, stateOf, Call, After, accountsInUse, inUse
 use Rattle.switch_verdict.specs.declared.Verdict.the-variants.{Refused}
 use Rattle.filter.proofs.Filter.{frame-zero}
 use Rattle.switch.proofs.Call.{held-again, decided-refused, decided-policed}
-use Rattle.demands.specs.History.{callsOn, callAnswers, finalState, configIn, stateIn}
+use Rattle.switch.specs.History.{callsOn, callAnswers, finalState}
+use Rattle.demands.specs.History.{configIn, stateIn}
 use Rattle.demands.specs.Rule.{imageTerms, imageLink, linkRow, filterCode, passing, reachedIn, ruleCode, ruleOfCalls}
 use Rattle.demands.specs.Demand3.{RuleOfFreshTables}
 use Rattle.demands.proofs.Tables.{Tables, tables, long, starts-loaded}

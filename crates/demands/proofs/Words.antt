@@ -23,7 +23,8 @@ use Rattle.image_load.proofs.Fresh.{load-fresh}
 use Rattle.image_round_trip.specs.RoundTrips.{loadedTables}
 use Rattle.switch.specs.Call.{Call, called}
 use Rattle.filter.proofs.Filter.{frame-code-high, port-code-high}
-use Rattle.demands.specs.History.{callAnswers, finalState, callCodes, configIn, stateIn}
+use Rattle.switch.specs.History.{callAnswers, finalState}
+use Rattle.demands.specs.History.{callCodes, configIn, stateIn}
 use Rattle.demands.specs.Rule.{imageTerms, imageLink, linkRow, filterCode, reachedIn, accountNamed, ruleCode, ruleOfCalls}
 use Rattle.demands.specs.Demand3.{RuleOfHistory, RuleInWords, OthersInWords, TenNever}
 use Rattle.demands.proofs.Tables.{tables}

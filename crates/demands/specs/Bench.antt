@@ -15,7 +15,8 @@ use Rattle.image_fill.specs.Filling.{Runs}
 use Rattle.image_round_trip.specs.RoundTrips.{loadedTables}
 use Rattle.switch_verdict.specs.Verdict.{Report, report}
 use Rattle.switch.specs.Call.{State, Call, callOf, called}
-use Rattle.demands.specs.History.{callAnswers, finalState, stateIn}
+use Rattle.switch.specs.History.{callAnswers, finalState}
+use Rattle.demands.specs.History.{stateIn}
 use Rattle.demands.specs.Rule.{imageTerms}
 
 -- image P with frame mode in its account: octet 16 is 1

@@ -11,7 +11,8 @@ use Rattle.account_rule.specs.Counted.{reaching, countedFor, NeverFall}
 use Rattle.image_fill.specs.Filling.{Runs}
 use Rattle.image_load.specs.Fresh.{Fresh}
 use Rattle.switch.specs.Call.{Call}
-use Rattle.demands.specs.History.{callAnswers, callCodes, configIn, stateIn}
+use Rattle.switch.specs.History.{callAnswers}
+use Rattle.demands.specs.History.{callCodes, configIn, stateIn}
 use Rattle.demands.specs.Rule.{imageTerms, meant, reachedIn}
 
 -- a call with its code: whether it was meant for account a and reached it, and what it counts for there

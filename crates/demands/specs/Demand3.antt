@@ -21,7 +21,8 @@ use Rattle.image_load.specs.Fresh.{Fresh}
 use Rattle.image_round_trip.specs.RoundTrips.{loadedTables}
 use Rattle.switch.specs.Call.{State, Call, callOf, called}
 use Rattle.demands.specs.Counted.{ReachedByAnswers, TimesNeverFall}
-use Rattle.demands.specs.History.{callAnswers, finalState, callCodes, configIn, stateIn}
+use Rattle.switch.specs.History.{callAnswers, finalState}
+use Rattle.demands.specs.History.{callCodes, configIn, stateIn}
 use Rattle.demands.specs.Rule.{imageTerms, linkRow, accountNamed, filterCode, meant, reachedIn, ruleCodes}
 
 -- ---- first half

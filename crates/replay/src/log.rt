@@ -1,163 +1,88 @@
-// The frames of `rig.frames`, read through one buffer and answered through another.
-ghost use Prim.Native.Nat.{_≤_};
-ghost use lib.ListN.{length};
+// The turns of a replay: octets of `rig.frames` are read before a turn, and the lines that it put are written after it.
+use crate::edge;
 use libc::STDOUT_FILENO;
-use replay_answer::answer;
-use replay_log::Entry;
-use switch_verdict::Verdict;
+use replay_turn::Progress;
+use replay_turn::Stop;
 use tables::Settings;
 
-// Octets read at once, those of the longest record and more, and characters written at once.
-const READ_OCTETS: usize = 4 * replay_log::LONGEST_RECORD;
+// Octets read at once: those of the longest record and more.
+pub(crate) const READ_OCTETS: usize = 4 * replay_log::LONGEST_RECORD;
 
-const WRITE_OCTETS: usize = 65536;
-
-// Where a replay stands: how many octets are at hand, its offset in them, its offset in the room for lines, how many
-// frames are answered, and whether it is over.
-struct Progress {
-    filled: usize,
-    at: usize,
-    next: usize,
-    frames: u64,
-    over: bool,
+// The octets at hand: where the replay stands in them, how many they are, whether the log has none after them, and whether
+// reading them failed.
+pub(crate) struct Hand {
+    pub(crate) at: usize,
+    pub(crate) filled: usize,
+    pub(crate) whole: bool,
+    pub(crate) failed: bool,
 }
 
-// Prints the lines that the room holds up to `next`.
-fn flush(out: &[u8], next: usize) {
-    let end = octets::least(next, out.len());
-    io::write_all(STDOUT_FILENO, &out[0..end]);
-}
-
-// Returns an offset with room for any line: `next`, or 0 once the lines before it are printed, where there is too little.
-fn with_room(out: &[u8], next: usize) -> usize {
-    if octets::has_room(out.len(), next, replay_text::LONGEST_LINE) {
-        return next;
+// Prints the lines that stand at the front of the room, and returns whether that was done.
+pub(crate) fn print(out: &[u8], written: usize) -> bool {
+    let end = octets::least(written, out.len());
+    if edge::write_all(STDOUT_FILENO, &out[0..end]) {
+        return true;
     }
-    flush(out, next);
-    0
+    os::fail(b"replay: the answers can't be written");
+    false
 }
 
-// The line of an answer.
-fn say(out: &mut [u8], next: usize, number: u64, verdict: Verdict) -> usize {
-    let at = with_room(out, next);
-    replay_text::put_line(out, at, number, verdict)
-}
-
-fn say_cut(out: &mut [u8], next: usize) -> usize {
-    let at = with_room(out, next);
-    replay_text::put_cut(out, at)
-}
-
-// After the last frame at hand: more is to be read, or the replay is over.
-fn stop(
-    entry: Entry,
-    filled: usize,
-    at: usize,
-    next: usize,
-    frames: u64,
-    out: &mut [u8],
-) -> Progress {
-    match entry {
-        Entry::More => Progress {
-            filled,
-            at,
-            next,
-            frames,
-            over: false,
-        },
-        Entry::Cut => Progress {
-            filled,
-            at,
-            next: say_cut(out, next),
-            frames,
-            over: true,
-        },
-        _ => Progress {
-            filled,
-            at,
-            next,
-            frames,
-            over: true,
-        },
+// Keeps what is left of the octets at hand, and reads on after it.
+fn read_on(file: i32, log: &mut [u8], at: usize, filled: usize) -> Hand {
+    let rest = replay_turn::keep_rest(log, at, filled);
+    let start = octets::least(rest, log.len());
+    let brought = edge::read_once(file, &mut log[start..]);
+    if brought.failed {
+        os::fail(b"replay: rig.frames can't be read");
     }
-}
-
-// Answers the frames at hand, up to the first that isn't there whole.
-fn answer_filled(
-    log: &[u8],
-    whole: bool,
-    from: Progress,
-    settings: Settings,
-    buffer: &mut [u8; frame::LARGEST_FRAME],
-    out: &mut [u8],
-    accounts: &[u8],
-    credits: &mut [u32],
-    lasts: &mut [u64],
-    links: &[u8],
-) -> Progress {
-    let mut at = from.at;
-    let mut next = from.next;
-    let mut frames = from.frames;
-    while frames < u64::MAX {
-        let entry = replay_log::next(log, at, whole);
-        let Entry::Frame(logged) = entry else {
-            return stop(entry, from.filled, at, next, frames, out);
-        };
-        let verdict = answer(
-            log,
-            logged,
-            settings,
-            buffer,
-            accounts,
-            credits,
-            lasts,
-            links,
-        );
-        frames += 1;
-        next = say(out, next, frames, verdict);
-        at = logged.next;
-    }
-    stop(Entry::End, from.filled, at, next, frames, out)
-}
-
-// Moves what is left at hand to the front and reads on after it; how many octets are then at hand.
-fn refill(file: i32, log: &mut [u8], at: usize, filled: usize) -> usize
-    ensures { λ r. ⌜ r ≤ length (now (log .exit)) ⌝ }
-{
-    let end = octets::least(filled, log.len());
-    let rest = end - octets::least(at, end);
-    replay_log::to_front(log, at, rest);
-    rest + io::read_full(file, &mut log[rest..])
-}
-
-// One turn: reads on, and answers what is at hand. Octets that don't fill the room for them are the log's last.
-fn turn(
-    file: i32,
-    log: &mut [u8],
-    progress: Progress,
-    settings: Settings,
-    buffer: &mut [u8; frame::LARGEST_FRAME],
-    out: &mut [u8],
-    accounts: &[u8],
-    credits: &mut [u32],
-    lasts: &mut [u64],
-    links: &[u8],
-) -> Progress {
-    let filled = refill(file, log, progress.at, progress.filled);
-    let from = Progress {
-        filled,
+    Hand {
         at: 0,
-        next: progress.next,
-        frames: progress.frames,
-        over: false,
+        filled: start + brought.octets,
+        whole: brought.octets == 0,
+        failed: brought.failed,
+    }
+}
+
+// The octets at hand for the next turn: more are read where the last turn asked for them and the log may have them.
+fn next_hand(file: i32, log: &mut [u8], progress: Progress, hand: Hand) -> Hand {
+    let stop = progress.stop;
+    if !hand.whole {
+        if let Stop::Octets = stop {
+            return read_on(file, log, progress.at, hand.filled);
+        }
+    }
+    Hand {
+        at: progress.at,
+        filled: hand.filled,
+        whole: hand.whole,
+        failed: false,
+    }
+}
+
+// A turn on the octets at hand, after so many frames.
+fn one_turn(
+    log: &[u8],
+    hand: Hand,
+    frames: u64,
+    settings: Settings,
+    out: &mut [u8],
+    accounts: &[u8],
+    credits: &mut [u32],
+    lasts: &mut [u64],
+    links: &[u8],
+) -> Progress {
+    let from = Progress {
+        at: hand.at,
+        frames,
+        written: 0,
+        stop: Stop::Octets,
     };
-    let whole = filled < log.len();
-    answer_filled(
-        &log[0..filled],
-        whole,
+    let end = octets::least(hand.filled, log.len());
+    replay_turn::turn(
+        &log[0..end],
+        hand.whole,
         from,
         settings,
-        buffer,
         out,
         accounts,
         credits,
@@ -166,72 +91,68 @@ fn turn(
     )
 }
 
-// Turn after turn until the replay is over. The turns are counted down, since nothing says that a file ends.
-fn run(
+// Whether a replay is over.
+fn is_over(stop: Stop) -> bool {
+    match stop {
+        Stop::Finished => true,
+        Stop::CutOff => true,
+        _ => false,
+    }
+}
+
+// How a replay that is over ended.
+fn status_of(stop: Stop) -> u8 {
+    match stop {
+        Stop::CutOff => edge::LOG_CUT,
+        _ => edge::REPLAYED,
+    }
+}
+
+// Turn after turn until the replay is over; returns how it ended. The turns are counted down, since nothing says that a file ends.
+pub(crate) fn run(
     file: i32,
     log: &mut [u8],
-    start: Progress,
+    first: Hand,
     settings: Settings,
-    buffer: &mut [u8; frame::LARGEST_FRAME],
     out: &mut [u8],
     accounts: &[u8],
     credits: &mut [u32],
     lasts: &mut [u64],
     links: &[u8],
-) -> usize {
-    let mut progress = start;
+) -> u8 {
+    let mut hand = first;
+    let mut progress = Progress {
+        at: 0,
+        frames: 0,
+        written: 0,
+        stop: Stop::Octets,
+    };
     let mut turns = u64::MAX;
     while 0 < turns {
-        if progress.over {
-            return progress.next;
+        hand = next_hand(file, log, progress, hand);
+        if hand.failed {
+            return edge::READ_FAILED;
         }
-        progress = turn(
-            file,
+        let frames = progress.frames;
+        progress = one_turn(
             log,
-            progress,
+            hand,
+            frames,
             settings,
-            buffer,
             out,
             accounts,
             credits,
             lasts,
             links,
         );
+        if !print(out, progress.written) {
+            return edge::WRITE_FAILED;
+        }
+        let stop = progress.stop;
+        if is_over(stop) {
+            return status_of(stop);
+        }
         turns -= 1;
     }
-    progress.next
-}
-
-// Replays a log that is open for reading, by the tables that were loaded.
-pub(crate) fn replay(
-    file: i32,
-    settings: Settings,
-    accounts: &[u8],
-    credits: &mut [u32],
-    lasts: &mut [u64],
-    links: &[u8],
-) {
-    let mut log = [0u8; READ_OCTETS];
-    let mut buffer = [0u8; frame::LARGEST_FRAME];
-    let mut out = [0u8; WRITE_OCTETS];
-    let start = Progress {
-        filled: 0,
-        at: 0,
-        next: replay_text::put_header(&mut out, 0),
-        frames: 0,
-        over: false,
-    };
-    let next = run(
-        file,
-        &mut log,
-        start,
-        settings,
-        &mut buffer,
-        &mut out,
-        accounts,
-        credits,
-        lasts,
-        links,
-    );
-    flush(&out, next);
+    edge::REPLAYED
 }

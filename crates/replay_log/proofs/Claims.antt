@@ -16,6 +16,7 @@ use Rattle.octets.proofs.Parts.{getD-part, part-is}
 use Rattle.fields.specs.Fields.{fieldOf, fieldAt, lengthAt}
 use Rattle.fields.specs.declared.Field.{Field}
 use Rattle.fields.proofs.Claims.{field-reads-back}
+use Rattle.fields.proofs.Fields.{length-field}
 use Rattle.replay_log.specs.Records.{unsettled, frameRecordAt, recordAt, nextIn}
 use Rattle.replay_log.specs.Claims.{frameRecord, recordOf, RecordReadsBack, NoWholeRecord}
 use Rattle.replay_log.specs.Figures.{RecordFigures}
@@ -101,6 +102,13 @@ pub record-reads-back : RecordReadsBack
 unfolding recordOf
 record-reads-back before after frame time port whole h small =
     (sym (entry-is before after frame time port small whole h), frame-is before after frame time port small)
+
+pub length-record : (time port : ℕ) (frame : List ℕ) → length (recordOf time port frame) ≡ 12 + length frame
+unfolding recordOf
+length-record time port frame =
+    let a = length-field 16 (bytes time port frame) in
+    let b = length-bytes time port frame in
+    omega arith
 
 -- ---- what is no whole record
 module _ (s : List ℕ) (at : ℕ) (tag : getD s at 0 ≡ 16) where

@@ -76,6 +76,20 @@ never-more s at o h e =
     (λ _ d _. omega arith)
     (λ _ _ d. never-frame (d ∙ c) e))
 
+-- of a log that has no more octets none are wanted
+pub never-open : (s : List ℕ) (at : ℕ) → nextIn s at true ≡ More → ⊥
+unfolding unsettled
+never-open s at e =
+    by-next s at true ⊥
+    (λ a. let f : End ≡ More = next-end s at true a refl ∙ e in let z : _≡_ {A = ℕ} 0 1 = cc in omega arith)
+    (λ _ _ c. never c e)
+    (λ _ _ _ c. never c e)
+    (λ _ _ l c.
+    by-logged s at true ⊥ l
+    (λ _ d. never (d ∙ c) e)
+    (λ _ _ d. never (d ∙ c) e)
+    (λ _ _ d. never-frame (d ∙ c) e))
+
 -- ---- more octets after
 pub next-settled : NextSettled
 next-settled s t at w h =

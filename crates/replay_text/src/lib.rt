@@ -1,6 +1,8 @@
 // The lines of a replay. Each function writes one at an offset of the room lent and answers the offset after it; without
 // room for the whole line it writes nothing and answers the offset itself. Every function is total.
+ghost use Prim.Native.Nat.{_≤_};
 ghost use mathlib.Core.Path.{_≡_};
+ghost use lib.ListN.{length};
 ghost use Rattle.switch_verdict.specs.Verdict.{reported};
 ghost use Rattle.replay_text.specs.Text.{frameLine, lineOf, refusedLine, headerLine, cutLine, longestLine};
 ghost use Rattle.replay_words.specs.Words.{appended, appendedOf};
@@ -24,6 +26,7 @@ pub fn longest_line() -> usize
 // The line of a frame whose answer carries a credit.
 fn put_credit_line(out: &mut [u8], at: usize, number: u64, code: u8, credit: u32) -> usize
     ensures { λ r. ⌜ appendedOf r (now (out .exit)) ≡ appended (now (out .entry)) at (frameLine number code (some credit)) ⌝ }
+    ensures { λ _. ⌜ length (frameLine number code (some credit)) ≤ longestLine ⌝ }
 {
     let mut line = [0u8; LONGEST_LINE];
     let a = replay_words::put_word(&mut line, 0, number, SPACE);
@@ -35,6 +38,7 @@ fn put_credit_line(out: &mut [u8], at: usize, number: u64, code: u8, credit: u32
 // The line of a frame whose answer is only its code.
 fn put_code_line(out: &mut [u8], at: usize, number: u64, code: u8) -> usize
     ensures { λ r. ⌜ appendedOf r (now (out .exit)) ≡ appended (now (out .entry)) at (frameLine number code none) ⌝ }
+    ensures { λ _. ⌜ length (frameLine number code none) ≤ longestLine ⌝ }
 {
     let mut line = [0u8; LONGEST_LINE];
     let a = replay_words::put_word(&mut line, 0, number, SPACE);
@@ -43,9 +47,10 @@ fn put_code_line(out: &mut [u8], at: usize, number: u64, code: u8) -> usize
     replay_words::put_text(&line, c, out, at)
 }
 
-// The line of a frame: its number, the code of its answer, and the credit that this carries.
+// The line of a frame: its number, the code of its answer, and the credit that this carries. It is no longer than the longest.
 pub fn put_line(out: &mut [u8], at: usize, number: u64, verdict: Verdict) -> usize
     ensures { λ r. ⌜ appendedOf r (now (out .exit)) ≡ appended (now (out .entry)) at (lineOf number (reported verdict)) ⌝ }
+    ensures { λ _. ⌜ length (lineOf number (reported verdict)) ≤ longestLine ⌝ }
 {
     match verdict {
         Verdict::Forwarded { mask: _, credit } => put_credit_line(

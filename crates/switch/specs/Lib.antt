@@ -1,4 +1,5 @@
 pub mod Call
 pub mod Claims
 pub mod Effects
+pub mod History
 pub mod Table

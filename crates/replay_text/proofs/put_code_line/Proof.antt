@@ -5,6 +5,7 @@ use Rattle.octets.proofs.Parts.{part-whole}
 use Rattle.replay_text.specs.Text.{space, creditWord, frameLine}
 use Rattle.replay_words.proofs.Words.{three, line-appended, word-most, word-code}
 use borrow.Author.Needs.{needs}
+use Rattle.replay_text.proofs.Claims.{lines-fit}
 use Rattle.replay_text.proofs.put_code_line.Statement.{statement}
 use Rattle.replay_text.proofs.put_code_line.Tie as tie
 
@@ -42,12 +43,14 @@ returns : tie.Need-returns
 unfolding frameLine
 returns c =
     let a = c .before .before .before .before .before .before .before .before .before .before .before .before .before .before .before .before .args in
-    let f = c .before .before .before .before .before .before .before .before .before .before .before .before .before .before .before .before .fits in
-    line-appended _ _ _ _ _ _ _
-    (three _ _ _ (creditWord none) _ _ _ _ _ _
-    (omega (arith, word-most (a .number) space, word-code (a .code) space (f .code .fits)))
-    (c .before .before .before .before .before .before .before .before .before .before .before .before .before .put-word .ensures) (c .before .before .before .before .before .before .before .before .before .before .put-word2 .ensures) (line-appended _ _ _ _ _ _ _ (part-whole (creditWord none)) (c .before .before .before .before .before .before .put-text .ensures)))
-    (c .before .before .put-text2 .ensures)
+    let f = c .before .before .before .before .before .before .before .before .before .before .before .before .before .before .before .before .fits in (
+      line-appended _ _ _ _ _ _ _
+          (three _ _ _ (creditWord none) _ _ _ _ _ _
+          (omega (arith, word-most (a .number) space, word-code (a .code) space (f .code .fits)))
+          (c .before .before .before .before .before .before .before .before .before .before .before .before .before .put-word .ensures) (c .before .before .before .before .before .before .before .before .before .before .put-word2 .ensures) (line-appended _ _ _ _ _ _ _ (part-whole (creditWord none)) (c .before .before .before .before .before .before .put-text .ensures)))
+          (c .before .before .put-text2 .ensures),
+      lines-fit (a .number) (a .code) 0 0 (f .code .fits) (omega arith) .0,
+    )
 
 pub put-code-line-spec : {M : Type 1} → statement M
 put-code-line-spec =

@@ -3,6 +3,7 @@ use native.Mathlib.Omega.{arith}
 use Rattle.replay_text.specs.Text.{space, lineEnd, frameLine}
 use Rattle.replay_words.proofs.Words.{three, line-appended, word-most, word-code, word-credit}
 use borrow.Author.Needs.{needs}
+use Rattle.replay_text.proofs.Claims.{lines-fit}
 use Rattle.replay_text.proofs.put_credit_line.Statement.{statement}
 use Rattle.replay_text.proofs.put_credit_line.Tie as tie
 
@@ -37,12 +38,14 @@ returns : tie.Need-returns
 unfolding frameLine
 returns c =
     let a = c .before .before .before .before .before .before .before .before .before .before .before .before .before .before .before .args in
-    let f = c .before .before .before .before .before .before .before .before .before .before .before .before .before .before .before .fits in
-    line-appended _ _ _ _ _ _ _
-    (three _ _ _ _ _ _ _ _ _ _
-    (omega (arith, word-most (a .number) space, word-code (a .code) space (f .code .fits), word-credit (a .credit) lineEnd (f .credit .fits)))
-    (c .before .before .before .before .before .before .before .before .before .before .before .before .put-word .ensures) (c .before .before .before .before .before .before .before .before .before .put-word2 .ensures) (c .before .before .before .before .before .before .put-word3 .ensures))
-    (c .before .before .put-text .ensures)
+    let f = c .before .before .before .before .before .before .before .before .before .before .before .before .before .before .before .fits in (
+      line-appended _ _ _ _ _ _ _
+          (three _ _ _ _ _ _ _ _ _ _
+          (omega (arith, word-most (a .number) space, word-code (a .code) space (f .code .fits), word-credit (a .credit) lineEnd (f .credit .fits)))
+          (c .before .before .before .before .before .before .before .before .before .before .before .before .put-word .ensures) (c .before .before .before .before .before .before .before .before .before .put-word2 .ensures) (c .before .before .before .before .before .before .put-word3 .ensures))
+          (c .before .before .put-text .ensures),
+      lines-fit (a .number) (a .code) (a .credit) 0 (f .code .fits) (f .credit .fits) .1,
+    )
 
 pub put-credit-line-spec : {M : Type 1} → statement M
 put-credit-line-spec =

@@ -1,0 +1,4 @@
+pub mod Keeping
+pub mod Log
+pub mod Text
+pub mod Turning

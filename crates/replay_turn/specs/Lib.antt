@@ -1,0 +1,4 @@
+pub mod Claims
+pub mod Log
+pub mod Text
+pub mod Turn
