@@ -46,7 +46,7 @@ use Rattle.demands.proofs.Isolation.{isolation-of-fresh-tables}
 abbrev accountP1 : List ℕ
 accountP1 = set accountP 5 1
 
-abbrev runs-of : List ℕ → Runs
+abbrev pub runs-of : List ℕ → Runs
 runs-of account = runsOf account (300000 ∷ []) (0 ∷ []) linkP
 
 frame-p-reads : readImage frameImageP ≡ answerP
@@ -65,7 +65,7 @@ fresh-by s account e a c l =
       links = rw e l;
     }
 
-fresh-p : Fresh imageP (runs-of accountP)
+pub fresh-p : Fresh imageP (runs-of accountP)
 unfolding accountRows capacities linkRows joined octetsAt fieldOffset termsAt numberAt capacity rate added charge bag
 fresh-p = fresh-by imageP accountP (image-p-reads .0) refl refl refl
 
@@ -74,10 +74,10 @@ unfolding accountRows capacities linkRows joined octetsAt fieldOffset termsAt nu
 fresh-frame-p = fresh-by frameImageP accountP1 frame-p-reads refl refl refl
 
 -- ---- the answers from these, computed
-abbrev config-by : List ℕ → ImageAnswer → Config
+abbrev pub config-by : List ℕ → ImageAnswer → Config
 config-by account q = configFor (q .settings) account linkP
 
-abbrev full : State
+abbrev pub full : State
 full = stateOf (300000 ∷ []) (0 ∷ [])
 
 computed : callAnswers (config-by accountP answerP) full (calls byteCases) ≡ byteVerdicts

@@ -32,6 +32,10 @@ use Rattle.replay_text.proofs.Claims.{lines-fit, lines-by-verdict, sheet-lines,
 use Rattle.replay_log.proofs.Settled.{next-settled, next-moved, never-more, frame-inside}
 use Rattle.replay_log.proofs.Claims.{record-reads-back, no-whole-record, record-figures}
 use Rattle.replay_answer.proofs.Claims.{long-frame-skipped, record-answered, replied-parts}
+use Rattle.replay_turn.proofs.Keeping.{rest-kept}
+use Rattle.replay_turn.proofs.Log.{enough-records, log-reads-back}
+use Rattle.replay_turn.proofs.Text.{text-of-pieces, turns-move-on}
+use Rattle.demands.proofs.Replayed.{replay-of-rig, refused-rig, case-fourteen}
 use Rattle.demands.proofs.Bench.{call-bench-table, case-twelve, meant-limits}
 use Rattle.demands.proofs.Counted.{reached-by-answers, times-never-fall}
 use Rattle.demands.proofs.Isolation.{isolation, isolation-of-fresh-tables}
@@ -214,6 +218,14 @@ replay =
       record-answered = record-answered;
       long-frame-skipped = long-frame-skipped;
       replied-parts = replied-parts;
+      replay-of-rig = replay-of-rig;
+      refused-rig = refused-rig;
+      text-of-pieces = text-of-pieces;
+      log-reads-back = log-reads-back;
+      enough-records = enough-records;
+      turns-move-on = turns-move-on;
+      rest-kept = rest-kept;
+      case-fourteen = case-fourteen;
       lines-by-verdict = lines-by-verdict;
       sheet-lines = sheet-lines;
       other-lines = other-lines;

@@ -3,6 +3,7 @@ pub mod Counted
 pub mod Demands
 pub mod Filter
 pub mod Isolation
+pub mod Replayed
 pub mod Rule
 pub mod Tables
 pub mod Words

@@ -6,4 +6,5 @@ pub mod Demand3
 pub mod Figures
 pub mod History
 pub mod Replay
+pub mod Replayed
 pub mod Rule

@@ -5,6 +5,8 @@ use Rattle.replay_text.specs.Claims.{LinesFit, LinesByVerdict, SheetLines, Othe
 use Rattle.replay_log.specs.Claims.{NextSettled, NextMoved, NeverMore, FrameInside, RecordReadsBack, NoWholeRecord}
 use Rattle.replay_log.specs.Figures.{RecordFigures}
 use Rattle.replay_answer.specs.Claims.{LongFrameSkipped, RecordAnswered, RepliedParts}
+use Rattle.replay_turn.specs.Claims.{EnoughRecords, LogReadsBack, TextOfPieces, TurnsMoveOn, RestKept}
+use Rattle.demands.specs.Replayed.{ReplayOfRig, RefusedRig, CaseFourteen}
 
 pub record Replay : Type 0 where
   -- the log
@@ -20,6 +22,15 @@ pub record Replay : Type 0 where
   pub record-answered : RecordAnswered
   pub long-frame-skipped : LongFrameSkipped
   pub replied-parts : RepliedParts
+  -- the text of the whole, however it is read
+  pub replay-of-rig : ReplayOfRig
+  pub refused-rig : RefusedRig
+  pub text-of-pieces : TextOfPieces
+  pub log-reads-back : LogReadsBack
+  pub enough-records : EnoughRecords
+  pub turns-move-on : TurnsMoveOn
+  pub rest-kept : RestKept
+  pub case-fourteen : CaseFourteen
   -- the lines
   pub lines-by-verdict : LinesByVerdict
   pub sheet-lines : SheetLines
