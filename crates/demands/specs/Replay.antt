@@ -6,6 +6,7 @@ use Rattle.replay_log.specs.Claims.{NextSettled, NextMoved, NeverMore, FrameIns
 use Rattle.replay_log.specs.Figures.{RecordFigures}
 use Rattle.replay_answer.specs.Claims.{LongFrameSkipped, RecordAnswered, RepliedParts}
 use Rattle.replay_turn.specs.Claims.{EnoughRecords, LogReadsBack, TextOfPieces, TurnsMoveOn, RestKept}
+use Rattle.replay_turn.specs.Figures.{TurnFigures, StopFigures}
 use Rattle.demands.specs.Replayed.{ReplayOfRig, RefusedRig, CaseFourteen}
 
 pub record Replay : Type 0 where
@@ -30,6 +31,8 @@ pub record Replay : Type 0 where
   pub enough-records : EnoughRecords
   pub turns-move-on : TurnsMoveOn
   pub rest-kept : RestKept
+  pub turn-figures : TurnFigures
+  pub stop-figures : StopFigures
   pub case-fourteen : CaseFourteen
   -- the lines
   pub lines-by-verdict : LinesByVerdict

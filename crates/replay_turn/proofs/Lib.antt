@@ -1,3 +1,4 @@
+pub mod Figures
 pub mod Keeping
 pub mod Log
 pub mod Text

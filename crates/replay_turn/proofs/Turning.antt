@@ -25,9 +25,9 @@ use Rattle.replay_log.specs.declared.Entry.{Entry}
 use Rattle.replay_log.specs.declared.Entry.the-variants.{Frame, More, Cut, End}
 use Rattle.replay_answer.specs.Answer.{Replied, recordCall, repliedOf, replied}
 use Rattle.replay_turn.specs.declared.Stop.{Stop}
-use Rattle.replay_turn.specs.declared.Stop.the-variants.{Octets, Room, Finished, CutOff}
+use Rattle.replay_turn.specs.declared.Stop.the-variants.{Octets, Room, Finished}
 use Rattle.replay_turn.specs.declared.Progress.{Progress}
-use Rattle.replay_turn.specs.Turn.{Stretch, stopped, withText, mostFrames, stretchBy, stretch, Turned, turnedOf, progressOf, linesIn, turnOf, turned, Lined, linedOf, lined, openingText, openingStop, Opened, openedOf, stoppedBy, opened}
+use Rattle.replay_turn.specs.Turn.{Stretch, stopped, withText, mostFrames, cutStop, stretchBy, stretch, Turned, turnedOf, progressOf, linesIn, turnOf, turned, Lined, linedOf, lined, openingText, openingStop, Opened, openedOf, stoppedBy, opened}
 
 -- ---- the start
 module _ (code offset n : ℕ) (d e : List ℕ) where
@@ -62,8 +62,8 @@ module _ (d : List ℕ) (at k written : ℕ) where
   stop-more q = ap (stoppedBy d at k written) (sym q)
 
   pub stop-cut : {e : Entry} (n : ℕ) (c : List ℕ) → e ≡ Cut → appendedOf n c ≡ appended d written cutLine
-      → openedOf (progressOf at k n CutOff) c ≡ stoppedBy d at k written e
-  stop-cut n c q l = ap (λ (a : Appended). openedOf (progressOf at k (a .next) CutOff) (a .room)) l ∙ ap (stoppedBy d at k written) (sym q)
+      → openedOf (progressOf at k n cutStop) c ≡ stoppedBy d at k written e
+  stop-cut n c q l = ap (λ (a : Appended). openedOf (progressOf at k (a .next) cutStop) (a .room)) l ∙ ap (stoppedBy d at k written) (sym q)
 
   pub stop-end : {e : Entry} → e ≡ End → openedOf (progressOf at k written Finished) d ≡ stoppedBy d at k written e
   stop-end q = ap (stoppedBy d at k written) (sym q)
@@ -77,12 +77,12 @@ other-tag e o r q = miss (1 ∷ 2 ∷ 3 ∷ []) 0 tt (subst (λ (x : Entry). One
 
 -- ---- a stretch by what stands next
 module _ (n : ℕ) (g : Config) (s : List ℕ) (w : Bool) (at k : ℕ) (t : State) where
-  stretch-by : (e : Entry) → nextIn s at w ≡ e
+  pub stretch-by : (e : Entry) → nextIn s at w ≡ e
       → stretch (suc n) g s w at k t ≡ stretchBy (λ next left. stretch n g s w next (suc k) left) g s at k t e
   unfolding stretch
   stretch-by e q = ap (stretchBy (λ next left. stretch n g s w next (suc k) left) g s at k t) q
 
-  stretch-frame : (r : FrameRecord) → nextIn s at w ≡ Frame r → k < mostFrames
+  pub stretch-frame : (r : FrameRecord) → nextIn s at w ≡ Frame r → k < mostFrames
       → stretch (suc n) g s w at k t
       ≡ withText (lineOf (suc k) (called g t (recordCall s r) .says)) (stretch n g s w (r .next) (suc k) (called g t (recordCall s r) .state))
   stretch-frame r q l = stretch-by (Frame r) q ∙ simp (lt-leb mostFrames k l)
@@ -154,7 +154,7 @@ module _ (g : Config) (s : List ℕ) (w : Bool) (d₀ : List ℕ) (at₀ k₀ : 
           let f : written + length cutLine ≤ length d₀ = omega arith in
           let m : nextOffset d written cutLine ≡ written + length cutLine = appended-next d written cutLine _ (put d written cutLine) refl (omega (arith, long)) in
           ap (λ (x : Opened). turnedOf (x .progress) (x .room) t) o
-          ∙ ended (put d written cutLine) cutLine (nextOffset d written cutLine) CutOff (stops Cut cutLine CutOff (sym q) refl) refl m f
+          ∙ ended (put d written cutLine) cutLine (nextOffset d written cutLine) cutStop (stops Cut cutLine cutStop (sym q) refl) refl m f
       along-stop End p c q n o = ap (λ (x : Opened). turnedOf (x .progress) (x .room) t) o ∙ ended-here Finished (stops End [] Finished (sym q) refl)
 
       -- at a frame that can't be numbered

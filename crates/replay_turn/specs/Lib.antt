@@ -1,4 +1,5 @@
 pub mod Claims
+pub mod Figures
 pub mod Log
 pub mod Text
 pub mod Turn

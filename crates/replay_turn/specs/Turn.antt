@@ -39,12 +39,16 @@ withText xs a = record { text = xs ++ a .text; at = a .at; frames = a .frames; s
 abbrev pub mostFrames : ℕ
 mostFrames = 2 ^ 64 - 1
 
+-- why a replay stops at a log that is cut
+abbrev pub cutStop : Stop
+cutStop = CutOff
+
 -- by what stands at an offset after k frames, and what follows a frame
 abbrev pub stretchBy : (ℕ → State → Stretch) → Config → List ℕ → ℕ → ℕ → State → Entry → Stretch
 stretchBy after g s at k t (Frame r) =
     if leb mostFrames k then stopped [] at k t Finished
     else withText (lineOf (suc k) (called g t (recordCall s r) .says)) (after (r .next) (called g t (recordCall s r) .state))
-stretchBy after g s at k t Cut = stopped cutLine at k t CutOff
+stretchBy after g s at k t Cut = stopped cutLine at k t cutStop
 stretchBy after g s at k t More = stopped [] at k t Octets
 stretchBy after g s at k t End = stopped [] at k t Finished
 
@@ -102,7 +106,7 @@ openedOf p d = record { progress = p; room = d }
 
 abbrev pub stoppedBy : List ℕ → ℕ → ℕ → ℕ → Entry → Opened
 stoppedBy d at k written (Frame r) = openedOf (progressOf at k written Finished) d
-stoppedBy d at k written Cut = openedOf (progressOf at k (nextOffset d written cutLine) CutOff) (put d written cutLine)
+stoppedBy d at k written Cut = openedOf (progressOf at k (nextOffset d written cutLine) cutStop) (put d written cutLine)
 stoppedBy d at k written More = openedOf (progressOf at k written Octets) d
 stoppedBy d at k written End = openedOf (progressOf at k written Finished) d
 
