@@ -9,7 +9,10 @@
 //!     bench against PROGRAM                 this build's static library against that of another build's `bench`
 //!     bench serve LINKS OCTETS STANDING     a round of the static library for each line of the input, as `bench against`
 //!                                           asks for them
+//!     bench assurance                       the figures of docs/ASSURANCE.md
+//!     bench once CALL INPUT                 one exported call with one of the inputs of these figures, for a profiler
 
+mod assurance;
 mod builds;
 mod frames;
 mod images;
@@ -22,7 +25,7 @@ use std::process::ExitCode;
 use work::{Standing, Work};
 
 const USAGE: &str = "usage: bench [frames | standings | images | replays | count proved|rust LINKS OCTETS STANDING | \
-                     replay FOLDER | against PROGRAM | serve LINKS OCTETS STANDING]";
+                     replay FOLDER | against PROGRAM | serve LINKS OCTETS STANDING | assurance | once CALL INPUT]";
 
 fn print(parts: &[fn()]) {
     rounds::print_heading();
@@ -62,6 +65,8 @@ fn run(words: &[&str]) -> bool {
             Some(w) => builds::serve(&w),
             None => return false,
         },
+        ["assurance"] => return assurance::table(),
+        ["once", call, input] => return assurance::once(call, input),
         _ => return false,
     }
     true
