@@ -26,7 +26,7 @@ use Rattle.account.proofs.Step.{Refusal, by-step}
 pub sound-within : SoundLimits
 sound-within a = (λ v. (sound-limits a v, sound-credit a v), λ h. sound-by a (h .0) (h .1))
 
--- an answer, from what it reports
+-- the answer that a report belongs to
 heard : StepReport → Outcome
 heard w = from (w .code) (w .credit)
   where
@@ -56,7 +56,7 @@ length-refuses n h P f g =
 refuses : (x : ℕ) → Refusal x → (P : ℕ → Type 0) → P 1 → P 2 → P 10 → P x
 refuses x r P f g h = ⊎-elim (λ e. rw e f) (⊎-elim (λ e. rw e g) (λ e. rw e h)) r
 
--- so it is none of the others
+-- a refusal's code is not 0, 8 or 9
 others : (x : ℕ) → Refusal x → (x ≡ 0 → ⊥) × (x ≡ 8 → ⊥) × (x ≡ 9 → ⊥)
 others x r =
     refuses x r (λ y. (y ≡ 0 → ⊥) × (y ≡ 8 → ⊥) × (y ≡ 9 → ⊥))
@@ -117,7 +117,7 @@ module _ (a : Account) (n t : ℕ) (z : lengthCode n ≡ 0) (v : accountSound a 
   cost-is : cost (termsOf a) n ≡ costOf topped n
   cost-is = cost-sound topped n z (sound-by topped (sound-limits a v) (credit-at-high a t))
 
--- by cases where the step answers 0 or 9; its other answers fall away
+-- case analysis of a step that answers 0 or 9
 by-reached : (a : Account) (n t : ℕ) (P : Stepped → Type 0)
     → (lengthCode n ≡ 0 → accountSound a ≡ true → a .last ≤ t → creditAt a t < cost (termsOf a) n
     → P (stepped (Short (creditAt a t)) (holding a (creditAt a t) t)))
@@ -152,7 +152,7 @@ step-below-capacity a n t s =
     let b = cost-low (termsOf a) (limits (termsOf a) (sound-limits a v)) n (omega arith) in
     omega (arith, credit-at-high a t))
 
--- a code that is none of 1, 2 and 10
+-- a code other than 1, 2 and 10 is no refusal's
 none-of : (x : ℕ) {P : Type 0} → (x ≡ 1 → ⊥) → (x ≡ 2 → ⊥) → (x ≡ 10 → ⊥) → Refusal x → P
 none-of x f g h e = absurd (⊎-elim f (⊎-elim g h) e)
 
@@ -165,11 +165,11 @@ refused-step-reports a n t =
     (λ _ _ _ _. (λ e. absurd (omega arith), none-of 9 (λ e. omega arith) (λ e. omega arith) (λ e. omega arith)))
     (λ _ _ _ _. (λ e. absurd (omega arith), none-of 0 (λ e. omega arith) (λ e. omega arith) (λ e. omega arith)))
 
--- a debit of nothing
+-- a debit of cost 0 changes nothing
 debit-idle : (a : Account) (n : ℕ) → 0 ≡ costOf a n → debited a n ≡ a
 debit-idle a n e = sym (debit-enough a n 0 e (omega arith) a (ap (λ (c : ℕ). holding a c (a .last)) (sym (sub-zero (a .credit)))))
 
--- where the step refuses, the methods rest
+-- where the step refuses, the methods give 0 or change nothing
 pub refused-methods-idle : RefusedMethodsIdle
 refused-methods-idle a n t =
     by-step a n t (λ q. Idle a n t (q .says .code))

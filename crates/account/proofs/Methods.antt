@@ -15,7 +15,7 @@ use Rattle.account.specs.Account.{termsOf, holding, accountSound, credit
 use Rattle.account.specs.declared.Account.{Account}
 use Rattle.account.specs.declared.Measured.{Measured}
 
--- the number of what capacity and cost hand back
+-- the number in what capacity and cost hand back
 pub units-is : (q : Measured) (x : ℕ) (b : Account) → q ≡ record { units = x; account = b } → q .units ≡ x
 units-is q x b e = ap (λ (w : Measured). w .units) e
 
@@ -33,7 +33,7 @@ module _ (a : Account) where
   unfolding accountSound
   sound-by e h = ap₂ _&&_ e (le-leb _ _ h)
 
-  -- ---- capacity: by the limits and the credit
+  -- ---- capacity: decided by the limits and the credit
   pub capacity-not : accountSound a ≡ false → 0 ≡ capacityOf a
   unfolding capacityOf
   capacity-not v = simp v
@@ -42,7 +42,7 @@ module _ (a : Account) where
   unfolding capacityOf
   capacity-is v = simp v
 
-  -- by the capacity of the values, 0 where these break a limit
+  -- the account's capacity from that of its values, which is 0 where the values break a limit
   capacity-by : (if leb (a .credit) (checkedCapacity (termsOf a)) then checkedCapacity (termsOf a) else 0) ≡ capacityOf a
   unfolding accountSound capacityOf checkedCapacity
   capacity-by =
@@ -57,7 +57,7 @@ module _ (a : Account) where
     pub credit-within : a .credit ≤ full → measured full a ≡ measured (capacityOf a) a
     credit-within h = rw (← capacity-by) (simp (← f, le-leb _ _ h))
 
-  -- ---- what the capacity's answer says
+  -- ---- what a capacity that was answered says of the account
   module _ (c : ℕ) (e : c ≡ capacityOf a) where
     pub none-unsound : c ≡ 0 → accountSound a ≡ false
     none-unsound z =
@@ -77,17 +77,17 @@ module _ (a : Account) where
     pub some-capacity : (c ≡ 0 → ⊥) → c ≡ capacity (termsOf a)
     some-capacity h = e ∙ sym (capacity-is (some-sound h))
 
-  -- ---- the topped-up credit, of a capacity and a rate
+  -- ---- the topped-up credit, from a capacity and a rate
   pub credit-at : (t c r w : ℕ) → r ≡ rate (termsOf a) → w ≡ min c (a .credit + r * (t - a .last)) → w ≡ creditUpTo a c t
   unfolding creditUpTo
   credit-at t c r w q e = e ∙ ap (λ (y : ℕ). min c (a .credit + y * (t - a .last))) q
 
-  -- a credit that has no room for more
+  -- a credit at or above the capacity is topped up to the capacity
   pub credit-full : (t c : ℕ) → c ≤ a .credit → c ≡ creditUpTo a c t
   unfolding creditUpTo
   credit-full t c h = omega arith
 
-  -- a credit at the capacity stays, however long the time
+  -- a credit equal to the capacity stays, however long the time
   pub credit-at-full : (t : ℕ) → a .credit ≡ capacity (termsOf a) → a .credit ≡ creditAt a t
   credit-at-full t e = e ∙ credit-full t (capacity (termsOf a)) (omega (arith, e))
 
@@ -95,7 +95,7 @@ module _ (a : Account) where
   unfolding creditUpTo
   credit-at-high t = min-le-left _ _
 
-  -- ---- top-up: b is the account that is given
+  -- ---- top-up: b is the account that the code gives
   module _ (t : ℕ) where
     module _ (c : ℕ) (b : Account) where
       pub brought-full : c ≤ a .credit → b ≡ holding a c t → b ≡ holding a (creditUpTo a c t) t
@@ -116,7 +116,7 @@ module _ (a : Account) where
     unfolding toppedUp
     top-up-sound v h c q b e = e ∙ ap (λ (x : ℕ). holding a (creditUpTo a x t) t) q ∙ simp (v, le-leb _ _ h)
 
-  -- ---- cost and debit, by the code r of the length
+  -- ---- cost and debit; r is the code of the length
   module _ (n : ℕ) where
     pub cost-refused : (r : ℕ) → r ≡ lengthCode n → (r ≡ 0 → ⊥) → 0 ≡ costOf a n
     unfolding costOf

@@ -1,4 +1,4 @@
--- The refill in 64 bits: an elapsed time cut to 2 ^ 32 fills an account as the whole of it would, and no product or sum
+-- The refill in 64 bits: an elapsed time cut to 2 ^ 32 fills an account as the whole time would, and no product or sum
 -- leaves 64 bits, whatever the 32-bit capacity, credit and rate. Assumes nothing.
 use Prim.Native.Nat.{ℕ, zero, suc, _+_, _-_, _*_, _^_, _≤_, _<_, min}
 use mathlib.Core.Path.{_≡_, refl, sym, ap, _∙_}
@@ -8,7 +8,7 @@ use lib.Dec.{leb}
 use borrow.Author.Tests.{leb-true, leb-false}
 use Rattle.lists.proofs.Tests.{split}
 
--- any rate but 0 gains 2 ^ 32 or more in that time
+-- any rate but 0 gains 2 ^ 32 or more in an elapsed time of 2 ^ 32
 long-gain : (rate counted capacity : ℕ) → counted ≡ 2 ^ 32 → capacity < 2 ^ 32 → rate * counted < capacity → rate ≡ 0
 long-gain zero counted capacity e f h = refl
 long-gain (suc rate) counted capacity e f h =
@@ -31,7 +31,7 @@ module _ (capacity credit rate elapsed counted : ℕ) (e : counted ≡ min elaps
       let m : rate * counted ≤ rate * elapsed = mul-le-mul-left rate (omega arith) in
       omega arith
 
-  -- a gain below the capacity is that of the whole time
+  -- a gain below the capacity is that of the whole elapsed time
   whole-gain : capacity < 2 ^ 32 → rate * counted < capacity → rate * counted ≡ rate * elapsed
   whole-gain f h =
       split (leb elapsed (2 ^ 32))

@@ -16,19 +16,19 @@ use Rattle.account.proofs.Methods.{sound-limits}
 use Rattle.account.specs.declared.Outcome.the-variants.{Forwarded, Short, Late, Refused}
 
 module _ (a : Account) (n t : ℕ) where
-  -- by the code r of the length
+  -- a length is refused by its code r
   pub police-length : (r : ℕ) → r ≡ lengthCode n → (r ≡ 0 → ⊥) → stepped (Refused r) a ≡ policed a n t
   unfolding policed
   police-length r e h = simp (e, ne-eqb (lengthCode n) 0 (rw e at h))
 
-  -- the capacity c and the cost x in hand
+  -- the step with capacity c and cost x in hand
   pub police-judged : lengthCode n ≡ 0 → accountSound a ≡ true → (c x : ℕ) → c ≡ capacity (termsOf a) → x ≡ checkedCost (termsOf a) n
       → judgedAt a c x t ≡ policed a n t
   unfolding policed
   police-judged z v c x p q =
       ap₂ (λ (f y : ℕ). judgedAt a f y t) p (q ∙ sym (cost-kept (termsOf a) (sound-limits a v) n z)) ∙ simp (eq-eqb _ _ z, v)
 
--- ---- a frame that costs x, of an account of capacity c
+-- ---- a frame that costs x, on an account of capacity c
 module _ (a : Account) (c x t : ℕ) where
   pub judged-late : t < a .last → stepped (Late (a .credit)) a ≡ judgedAt a c x t
   unfolding judgedAt
@@ -44,12 +44,13 @@ module _ (a : Account) (c x t : ℕ) where
     unfolding judgedAt judged
     judged-forwarded l = simp (le-ltb _ _ h, ← p, le-leb x w l)
 
--- a code of a refusal that comes with no credit
+-- the code of a refusal that reports no credit
 abbrev pub Refusal : ℕ → Type 0
 Refusal x = (x ≡ 1) ⊎ ((x ≡ 2) ⊎ (x ≡ 10))
 
 module _ (a : Account) (n t : ℕ) where
-  -- by cases: what holds of each answer, and of the step where it is that answer; an unsound account is refused by some such code
+  -- case analysis of a step: a property of each possible answer is one of the step's answer; an unsound account gets
+  -- the code of a refusal
   pub by-step : (P : Stepped → Type 0)
       → ((lengthCode n ≡ 0 → ⊥) → P (stepped (Refused (lengthCode n)) a))
       → (lengthCode n ≡ 0 → accountSound a ≡ false → (x : ℕ) → Refusal x → P (stepped (Refused x) a))

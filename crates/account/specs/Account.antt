@@ -10,7 +10,7 @@ use Rattle.terms.specs.declared.Terms.{Terms}
 use Rattle.account.specs.declared.Account.{Account}
 use Rattle.account.specs.declared.Measured.{Measured}
 
--- the configured values of an account, and the account of such values with a credit and a last time
+-- the configured values of an account; and the account with such values, a credit and a last time
 abbrev pub termsOf : Account → Terms
 termsOf a = a .terms
 
@@ -21,19 +21,20 @@ accountOf p c t = record { terms = p; credit = c; last = t }
 abbrev pub holding : Account → ℕ → ℕ → Account
 holding a c t = accountOf (termsOf a) c t
 
--- a fresh account, as loading leaves it: full, and last time 0
+-- a fresh account, as loading leaves an account: credit at capacity, last time 0
 abbrev pub loaded : Terms → Account
 loaded p = accountOf p (capacity p) 0
 
--- code 10 doesn't fit the account ("Codes, in order of checking"): values within limits, credit at most the capacity
+-- whether code 10 doesn't fit the account ("Codes, in order of checking"): values within limits, credit at most the
+-- capacity
 unfoldable pub accountSound : Account → Bool
 accountSound a = termsGood (termsOf a) && leb (a .credit) (capacity (termsOf a))
 
--- the credit topped up to time t: what the elapsed time adds to it, never above `full`
+-- the credit topped up to time t: the credit and what the elapsed time adds, at most `full`
 unfoldable pub creditUpTo : Account → ℕ → ℕ → ℕ
 creditUpTo a full t = min full (a .credit + rate (termsOf a) * (t - a .last))
 
--- the same, never above the capacity
+-- the credit topped up to time t, at most the capacity
 abbrev pub creditAt : Account → ℕ → ℕ
 creditAt a t = creditUpTo a (capacity (termsOf a)) t
 
@@ -52,8 +53,8 @@ measured x a = record { units = x; account = a }
 unfoldable pub toppedUp : Account → ℕ → Account
 toppedUp a t = if accountSound a && leb (a .last) t then holding a (creditAt a t) t else a
 
--- a debit takes the cost; a short credit stays, as the step keeps it for a dropped frame. Document 01 doesn't speak of this
--- method alone
+-- the account less a frame's cost; a short credit stays, as the step keeps the credit of a dropped frame. Document 01
+-- doesn't speak of this method alone
 unfoldable pub debited : Account → ℕ → Account
 debited a n =
     if leb (costOf a n) (a .credit)

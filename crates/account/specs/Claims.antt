@@ -26,8 +26,8 @@ StepsApart = (o q : Outcome) → stepReported o ≡ stepReported q → o ≡ q
 abbrev pub StepAnswers : Type 0
 StepAnswers = (a : Account) (n t : ℕ) → List·Memᴰ (policed a n t .says .code) (0 ∷ 1 ∷ 2 ∷ 8 ∷ 9 ∷ 10 ∷ [])
 
--- the step's table of codes, line by line ("Called alone, the policing step answers 1 or 2 by the octets, then 10, 8, 9 or 0"):
--- the step's code is that of the first line that fits, 0 where none does
+-- the step's table of codes, line by line ("Called alone, the policing step answers 1 or 2 by the octets, then 10, 8, 9
+-- or 0"): the step's code is that of the first line that fits, 0 where no line fits
 abbrev pub stepTable : Account → ℕ → ℕ → List Line
 stepTable a n t =
     line 1 (ltb n 64)
@@ -46,7 +46,7 @@ RefusedStepKeeps =
     (a : Account) (n t : ℕ) → (policed a n t .says .code ≡ 0 → ⊥) → (policed a n t .says .code ≡ 9 → ⊥)
     → policed a n t .account ≡ a
 
--- 9 brings the account to the frame's time, topped up, and reports the credit held
+-- code 9 brings the account to the frame's time, topped up, and reports the credit held
 abbrev pub ShortStepTopsUp : Type 0
 ShortStepTopsUp =
     (a : Account) (n t : ℕ) → policed a n t .says .code ≡ 9
@@ -54,7 +54,7 @@ ShortStepTopsUp =
     × (policed a n t .says .credit ≡ some (creditAt a t))
     × (creditAt a t < cost (termsOf a) n)
 
--- 0 brings the account to the frame's time, topped up and less the cost, and reports the credit left
+-- code 0 brings the account to the frame's time, topped up and less the cost, and reports the credit left
 abbrev pub ForwardedStepTakesCost : Type 0
 ForwardedStepTakesCost =
     (a : Account) (n t : ℕ) → policed a n t .says .code ≡ 0
@@ -62,13 +62,14 @@ ForwardedStepTakesCost =
     × (policed a n t .says .credit ≡ some (creditAt a t - cost (termsOf a) n))
     × (cost (termsOf a) n ≤ creditAt a t)
 
--- a step of at most Smax octets, as every frame call's is, leaves less than the capacity where it answers 0 or 9
+-- a step of at most Smax octets that answers 0 or 9 leaves less than the capacity; every frame call's step has at most
+-- Smax octets
 abbrev pub StepBelowCapacity : Type 0
 StepBelowCapacity =
     (a : Account) (n t : ℕ) → n ≤ termsOf a .smax → (policed a n t .says .code ≡ 0) ⊎ (policed a n t .says .code ≡ 9)
     → policed a n t .account .credit < capacity (termsOf a)
 
--- 8 reports the credit held, the frame's time being before the last; 1, 2 and 10 report no credit
+-- what a refusal reports: code 8 the credit held, the frame's time being before the last; codes 1, 2 and 10 no credit
 abbrev pub Reports : Account → ℕ → StepReport → Type 0
 Reports a t w =
     (w .code ≡ 8 → (w .credit ≡ some (a .credit)) × (t < a .last))

@@ -1,5 +1,5 @@
--- What holds of an account's methods, beside the policing step, for any account whatsoever (document 01, "Credit, in whole units" and
--- "Each place and its form"; document 02, Q-2); proved in proofs/Claims.antt.
+-- What holds of an account's methods, beside the policing step, for any account whatsoever (document 01, "Credit, in
+-- whole units" and "Each place and its form"; document 02, Q-2); proved in proofs/Claims.antt.
 use Prim.Native.Nat.{ℕ, _≤_}
 use mathlib.Core.Bool.{true}
 use mathlib.Core.Logic.{_⊎_}
@@ -10,7 +10,7 @@ use Rattle.account.specs.Account.{termsOf, holding, accountSound, credit
 use Rattle.account.specs.Step.{policed}
 use Rattle.account.specs.declared.Account.{Account}
 
--- where the step answers 0 or 9 it leaves what a top-up and then a debit leave
+-- where the step answers 0 or 9, the step leaves what a top-up and then a debit leave
 abbrev pub StepIsTopUpAndDebit : Type 0
 StepIsTopUpAndDebit =
     (a : Account) (n t : ℕ) → (policed a n t .says .code ≡ 0) ⊎ (policed a n t .says .code ≡ 9)
@@ -32,7 +32,8 @@ Idle a n t code =
 abbrev pub RefusedMethodsIdle : Type 0
 RefusedMethodsIdle = (a : Account) (n t : ℕ) → Idle a n t (policed a n t .says .code)
 
--- a sound account's methods give the formulas' values; for a frame's octets, and for a time not before the last
+-- a sound account's methods give the values of the formulas, the cost for a frame's octets, the top-up for a time not
+-- before the last
 abbrev pub SoundMethods : Type 0
 SoundMethods =
     (a : Account) (n t : ℕ) → accountSound a ≡ true

@@ -13,7 +13,7 @@ use Rattle.account.specs.declared.Policed.{Policed}
 use Rattle.account.specs.declared.Outcome.{Outcome}
 use Rattle.account.specs.declared.Outcome.the-variants.{Forwarded, Short, Late, Refused}
 
--- what an answer reports: its number in the table of codes, and the credit that it carries, if any
+-- what an answer reports: the answer's number in the table of codes, and the credit that the answer carries, if any
 pub record StepReport : Type 0 where
   pub code : ℕ
   pub credit : Option ℕ
@@ -24,7 +24,7 @@ stepReported (Short c) = record { code = Codes.short; credit = some c }
 stepReported (Late c) = record { code = Codes.late; credit = some c }
 stepReported (Refused n) = record { code = n; credit = none }
 
--- what a step says, and the account that it leaves
+-- a step's report, and the account that the step leaves
 pub record Stepped : Type 0 where
   pub says : StepReport
   pub account : Account
@@ -32,7 +32,7 @@ pub record Stepped : Type 0 where
 abbrev pub stepped : Outcome → Account → Stepped
 stepped o a = record { says = stepReported o; account = a }
 
--- the same, of what the code gives
+-- the step's report and account, from what the code gives
 abbrev pub steppedOf : Policed → Stepped
 steppedOf r = stepped (r .outcome) (r .account)
 
@@ -43,8 +43,8 @@ judged a c x t =
     then stepped (Forwarded (c - x)) (holding a (c - x) t)
     else stepped (Short c) (holding a c t)
 
--- a frame that costs x at time t, for an account that holds at most `full`: late before the last time, else judged by the credit
--- topped up to t
+-- a frame that costs x at time t, for an account that holds at most `full`: late where t is before the last time, else
+-- judged by the credit topped up to t
 unfoldable pub judgedAt : Account → ℕ → ℕ → ℕ → Stepped
 judgedAt a full x t = if ltb t (a .last) then stepped (Late (a .credit)) a else judged a (creditUpTo a full t) x t
 

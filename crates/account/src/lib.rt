@@ -32,7 +32,8 @@ pub enum Outcome {
     Refused(u8),
 }
 
-// What is decided of a frame: the answer, and the credit and the last time that the account then has. Its terms stay.
+// What is decided of a frame: the answer, and the account's credit and last time after the frame. The account's terms
+// stay.
 pub struct Ruling {
     pub outcome: Outcome,
     pub credit: u32,
@@ -52,8 +53,8 @@ fn shorter(a: u64, b: u64) -> u64
     if a <= b { a } else { b }
 }
 
-// The credit after an elapsed time, at most the capacity. The time is cut to one that is long enough to fill any
-// account before the product is taken, so that nothing wraps.
+// The credit after an elapsed time, at most the capacity. The elapsed time is cut to one that is long enough to fill
+// any account before the product is taken, so that nothing wraps.
 fn refilled(capacity: u32, credit: u32, rate: u32, elapsed: u64) -> u32
     ensures { λ r. ⌜ r ≡ min capacity (credit + rate * elapsed) ⌝ }
 {
@@ -83,8 +84,8 @@ impl Account {
         self
     }
 
-    // The account brought to a time that is not before the last, with a credit of at most `full`. An account at capacity
-    // has no room for a refill: it keeps its credit, and the time is stored.
+    // The account brought to a time that is not before the last, with a credit of at most `full`. An account at
+    // capacity has no room for a refill: the account keeps its credit, and the time is stored.
     fn brought_to(self, full: u32, time: u64) -> Account
         requires { ⌜ self .last ≤ time ⌝ }
         ensures { λ r. ⌜ r ≡ holding self (creditUpTo self full time) time ⌝ }
@@ -155,7 +156,7 @@ impl Account {
         self.holding(self.credit - cost, self.last)
     }
 
-    // What is decided of a frame that costs so much at a time, for a capacity in hand: late, short or forwarded.
+    // What is decided of a frame with a cost and a time, for a capacity in hand: late, short or forwarded.
     pub fn judge(self, full: u32, cost: u32, time: u64) -> Ruling
         ensures { λ r. ⌜ stepped (r .outcome) (holding self (r .credit) (r .last)) ≡ judgedAt self full cost time ⌝ }
     {
@@ -182,7 +183,7 @@ impl Account {
         }
     }
 
-    // The policing step: the answer for a frame of so many octets at a time, and the account after it.
+    // The policing step: the answer for a frame of a length and a time, and the account after the step.
     pub fn police(self, octets: usize, time: u64) -> Policed
         ensures { λ r. ⌜ steppedOf r ≡ policed self octets time ⌝ }
     {
@@ -209,7 +210,7 @@ impl Account {
     }
 }
 
-// The policing step on an account that is lent: the new credit and last time are stored in it.
+// The policing step on an account that is lent; the new credit and last time are stored in that account.
 pub fn police_in_place(a: &mut Account, octets: usize, time: u64) -> Outcome
     ensures { λ r. ⌜ stepped r (now (a .exit)) ≡ policed (now (a .entry)) octets time ⌝ }
 {

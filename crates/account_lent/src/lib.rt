@@ -1,11 +1,11 @@
-// The policing step on an account of its own: the account is held in a local and lent to `police_in_place`. A caller has
-// plain values and needs no reference to an account.
+// The policing step on an account that this crate owns: the account is held in a local and lent to `police_in_place`. A
+// caller has plain values and needs no reference to an account.
 ghost use mathlib.Core.Path.{_≡_};
 ghost use Rattle.account.specs.Step.{steppedOf, policed};
 use account::Account;
 use account::Policed;
 
-// The step as `police_in_place` does it: its answer, and the account that it leaves.
+// The policing step as `police_in_place` does it: the answer, and the account that the step leaves.
 pub fn police_lent(account: Account, octets: usize, time: u64) -> Policed
     ensures { λ r. ⌜ steppedOf r ≡ policed account octets time ⌝ }
 {

@@ -1,6 +1,6 @@
--- The token bucket and the rule that names no credit: the stored credit of a bucket of any depth and rate is a function `held`
--- of the frames that reached it, and a cost is at most the topped-up credit exactly where the rule holds from each of them.
--- Assumes nothing.
+-- The token bucket and the rule that names no credit: the stored credit of a bucket of any depth and rate is a function
+-- `held` of the frames that reached the bucket, and a cost is at most the topped-up credit exactly where the rule holds
+-- from each of these frames. Assumes nothing.
 use Prim.Native.Nat.{ℕ, zero, suc, _+_, _-_, _*_, _≤_, _<_, min}
 use mathlib.Core.Bool.{Bool, true, _&&_, and-true}
 use mathlib.Core.Path.{_≡_, refl, sym, ap, ap₂, _∙_}
@@ -13,7 +13,7 @@ use borrow.Author.Tests.{leb-true, leb-false, le-leb, lt-leb}
 use Rattle.lists.proofs.Tests.{split, both, leb-same}
 use Rattle.account_rule.specs.Bucket.{Reached, lastTime, holdsFrom, ruleHolds, costs, FromFrame, RuleRead}
 
--- a minimum's test is both tests
+-- the test against a minimum is the test against both numbers
 leb-min : (y a b : ℕ) → leb y (min a b) ≡ (leb y a && leb y b)
 leb-min y a b =
     split (leb y a)
@@ -22,7 +22,7 @@ leb-min y a b =
     (λ e. let h : a < y = leb-false y a e in
     lt-leb y (min a b) (omega arith) ∙ sym (ap (λ (t : Bool). t && leb y b) e))
 
--- ---- the credit that the frames that reached a bucket of this depth and rate leave
+-- ---- the credit of a bucket of this depth and rate, from the frames that reached the bucket
 module _ (depth rate : ℕ) where
   unfoldable pub gain : ℕ → ℕ → ℕ
   gain t u = rate * (t - u)
@@ -48,9 +48,9 @@ module _ (depth rate : ℕ) where
   held-high [] = omega arith
   held-high (r ∷ past) = omega arith
 
-  -- the allowance of a time is the depth and what is gained in it
+  -- the allowance of a time is the depth and the gain of that time
   module _ (allow : ℕ → ℕ) (linear : (d : ℕ) → allow d ≡ depth + rate * d) where
-    -- the test from one frame, u earlier than t: both sides grow by what is gained between
+    -- the test from one frame, u earlier than t: both sides grow by the gain between u and t
     test-shift : (z f t u v : ℕ) → v ≤ u → u ≤ t → leb (z + gain t u + f) (allow (t - v)) ≡ leb (z + f) (allow (u - v))
     test-shift z f t u v h k =
         let e1 : allow (t - v) ≡ depth + gain t v = unfold gain in linear (t - v) in
@@ -75,7 +75,7 @@ module _ (depth rate : ℕ) where
         ap₂ _&&_ (le-leb (y + r .forwarded) (allow (t - r .at)) (omega arith))
         (smaller past t (y + r .forwarded) (z + r .forwarded) (omega arith) (b .1))
 
-    -- the rule from one frame and from all before it, by the credit H held when that frame came
+    -- the rule from one frame and from all frames before it, by the credit H held when that frame came
     module _ (past : List Reached) (u f t y H : ℕ) (s : Sound past) (h : lastTime past ≤ u) (k : u ≤ t) (g : f ≤ H) (ih : (z : ℕ) → (leb z depth && holdsFrom allow u z past) ≡ leb z H) where
       allowed : allow (t - u) ≡ depth + gain t u
       unfolding gain
@@ -105,7 +105,7 @@ module _ (depth rate : ℕ) where
           (λ e. from-long (leb-true _ _ e))
           (λ e. let l : y + f < gain t u = leb-false _ _ e in from-short (omega arith))
 
-    -- the rule holds of a cost where the topped-up credit is at least that
+    -- the rule holds for a cost exactly where the topped-up credit is at least that cost
     credit-test : (past : List Reached) (t y : ℕ) → Sound past → lastTime past ≤ t → (leb y depth && holdsFrom allow t y past) ≡ leb y (topped past t)
     unfolding holdsFrom lastTime held topped
     credit-test [] t y s h = and-true _ ∙ leb-same y depth y (min depth (depth + gain t 0)) (λ x. omega arith) (λ x. omega arith)
@@ -115,7 +115,7 @@ module _ (depth rate : ℕ) where
         (λ z. credit-test past (r .at) z (s .2) (s .0))) ∙
         sym (leb-min y depth (held (r ∷ past) + gain t (r .at)))
 
-    -- the rule's test is the credit's
+    -- the rule's test is the test of the credit
     pub rule-is : (past : List Reached) (x t : ℕ) → Sound past → lastTime past ≤ t → ruleHolds allow t x past ≡ leb x (topped past t)
     unfolding ruleHolds
     rule-is past x t s h =

@@ -1,4 +1,5 @@
--- Which frames the rule's sums are about, by the answers that they got, and that their times never fall. Assumes nothing.
+-- Which frames the rule's sums are about, by the answers to these frames, and that their times never fall. Assumes
+-- nothing.
 use Prim.Native.Nat.{ℕ, zero, suc, _≤_, _<_}
 use mathlib.Core.Bool.{Bool, false, _||_}
 use mathlib.Core.List.{List, [], _∷_, reverse}
@@ -25,7 +26,7 @@ use Rattle.account_rule.proofs.Rule.{step-refused, step-arrived, rule-o
 pub not-reaching : (c : ℕ) → (c ≡ 0 → ⊥) → (c ≡ 9 → ⊥) → reaching c ≡ false
 not-reaching c f g = simp (ne-eqb c 0 f, ne-eqb c 9 g)
 
--- ---- one frame: it is added by its code
+-- ---- one frame: added to the past according to its code
 module _ (p : Terms) (past : List Reached) (n t : ℕ) where
   abbrev added : ℕ → List Reached
   added code = if reaching code then countedFor p n t code ∷ past else past
@@ -50,7 +51,7 @@ module _ (p : Terms) (past : List Reached) (n t : ℕ) where
           (sym (ap (λ (b : Bool). if b then countedFor p n t c ∷ past else past) (not-reaching c f g)))
 
 -- ---- times never fall
--- the first of a past is the last in time
+-- the first frame of a past is the last in time
 last-is : (past : List Reached) → 0 < length past → getD past 0 (reached 0 0) .at ≡ lastTime past
 unfolding lastTime
 last-is [] h = absurd (omega arith)
@@ -84,7 +85,7 @@ step-rises p past n t k =
     (λ e. rw (step-arrived p past n t (eqb-true _ _ e)) (arrived-rises p past n t k))
     (λ e. rw (step-refused p past n t (eqb-false _ _ e)) k)
 
--- over a past of steps
+-- times never fall in a past of steps
 pub past-rises : (p : Terms) (steps : List StepCall) → NeverFall (leftBy (ruleOfAccount p) [] steps)
 unfolding leftBy
 past-rises p [] = none-falls

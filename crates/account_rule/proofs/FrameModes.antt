@@ -1,5 +1,5 @@
--- In frame mode both sides of the rule are multiples of the rate. So the rate plays no part in the codes: they are those of an
--- account whose rate is 1, and line octets change none. Assumes nothing.
+-- In frame mode both sides of the rule are multiples of the rate. So the rate plays no part in the codes: they are
+-- those of an account whose rate is 1, and line octets change no code. Assumes nothing.
 use Prim.Native.Nat.{ℕ, _+_, _-_, _*_, _≤_}
 use mathlib.Core.Bool.{true, false, _&&_}
 use mathlib.Core.Path.{_≡_, refl, sym, ap, ap₂, _∙_}
@@ -34,7 +34,7 @@ module _ (f : ℕ) (pos : 1 ≤ f) where
   last-grown [] = refl
   last-grown (r ∷ z) = refl
 
-  -- the rule then is as it was, if the allowance is f times as much too
+  -- the rule with every cost times f is the same rule, where the allowance is f times as much too
   module _ (allow w : ℕ → ℕ) (e : (d : ℕ) → allow d ≡ f * w d) (t : ℕ) where
     from-grown : (z : List Reached) (spent : ℕ) → holdsFrom allow t (f * spent) (grown z) ≡ holdsFrom w t spent z
     unfolding grown holdsFrom
@@ -47,7 +47,7 @@ module _ (f : ℕ) (pos : 1 ≤ f) where
     unfolding ruleHolds
     holds-grown x z = rw (e 0) (ap₂ _&&_ (leb-grown x (w 0)) (from-grown z x))
 
--- ---- an account in frame mode, and the same with rate 1
+-- ---- an account in frame mode, and the same account with rate 1
 module _ (p : Terms) (frames : byOctets (p .mode) ≡ false) (pos : 1 ≤ rate p) where
   abbrev unit : Terms
   unit = termsWith 1 (p .k) (p .jitter) frameMode
@@ -93,12 +93,12 @@ module _ (p : Terms) (frames : byOctets (p .mode) ≡ false) (pos : 1 ≤ rate p
             (ap (λ (q : Ruled). q .code) e, ap (λ (q : Ruled). q .past) e);
       }
 
-  -- from loading on
+  -- the codes of steps from loading on
   codes-reported : termsGood p ≡ true → (steps : List StepCall) → stepCodes (stepReports (loaded p) steps) ≡ stepRuleCodes unit [] steps
   unfolding grown
   codes-reported ok steps = rule-of-steps p ok steps ∙ same-answers steps (each-grown steps) [] [] refl
 
--- the other values kept, any mode that charges Smax
+-- modes that charge Smax, the other values being the same
 module _ (s k j : ℕ) (ok : termsGood (termsWith s k j frameMode) ≡ true) where
   codes-in : (m : ℕ) → byOctets m ≡ false → m ≤ lineFrameMode → (steps : List StepCall)
       → stepCodes (stepReports (loaded (termsWith s k j m)) steps) ≡ stepRuleCodes (termsWith 1 k j frameMode) [] steps

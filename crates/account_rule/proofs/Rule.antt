@@ -1,5 +1,6 @@
--- The rule of demand 3 for the account, whatever its mode: a bucket of the depth and the rate that the mode gives. `arrival` is the
--- single step, for a frame that no code before 8 refuses; the rule for every list of steps follows from it. Assumes nothing.
+-- The rule of demand 3 for the account, whatever its mode: a bucket of the depth and the rate that the mode gives.
+-- `arrival` is the single step, for a frame that no code before 8 refuses; the rule for every list of steps follows
+-- from it. Assumes nothing.
 use Prim.Native.Nat.{ℕ, _+_, _-_, _*_, _≤_}
 use mathlib.Core.Bool.{true, false, false≢true}
 use mathlib.Core.Path.{_≡_, refl, sym, ap, _∙_}
@@ -41,17 +42,18 @@ module _ (p : Terms) where
   abbrev pub Sound : List Reached → Type 0
   Sound past = SoundBucket (capacity p) (rate p) past
 
-  -- the account that the frames that reached it leave
+  -- the account that the frames of a past leave
   abbrev pub state : List Reached → Account
   state past = accountOf p (held (capacity p) (rate p) past) (lastTime past)
 
-  -- a step and the rule agree: the same code, the account of the frames that have then reached it
+  -- a step and the rule agree: the same code, and the account of the frames that have reached the account after the
+  -- step
   pub record Agree (q : Stepped) (r : Ruled) : Type 0 where
     pub same-code : q .says .code ≡ r .code
     pub same-account : q .account ≡ state (r .past)
     pub sound : Sound (r .past)
 
-  -- the allowance of d is the depth and what is gained in d
+  -- the allowance of d is the depth and the gain of d
   allowance-is : (d : ℕ) → allowance p d ≡ capacity p + rate p * d
   unfolding allowance capacity
   allowance-is d = mul-add (rate p) (bag (p .k) + p .jitter) d
@@ -61,7 +63,7 @@ module _ (p : Terms) where
     unfolding creditUpTo topped gain
     credit-is t = refl
 
-    -- the rule's test is that of the topped-up credit
+    -- the rule's test is the test of the topped-up credit
     rule-is : (x t : ℕ) → lastTime past ≤ t → ruleHolds (allowance p) t x past ≡ leb x (creditAt (state past) t)
     rule-is x t h =
         bucket-rule (capacity p) (rate p) (allowance p) allowance-is past x t s h ∙ ap (leb x) (sym (credit-is t))
@@ -113,11 +115,11 @@ module _ (p : Terms) where
           (rw (← police-length (state past) n t (lengthCode n) refl m) (record { same-code = refl; same-account = refl; sound = s })))
 
   -- ---- every list of steps
-  -- an account is the one that the frames that reached it leave
+  -- an account is the one that the frames of its past leave
   abbrev Stands : List Reached → Account → Type 0
   Stands past a = (a ≡ state past) × Sound past
 
-  -- so a step answers with the rule's code, and the account stays so
+  -- a step answers with the rule's code, and the account stays the one of its past
   one-step : termsGood p ≡ true → (steps : List StepCall) → Simulates steppingAccount (ruleOfAccount p) (λ w. w .code) Stands steps
   one-step ok steps =
       record {
@@ -134,7 +136,7 @@ module _ (p : Terms) where
   unfolding held lastTime
   state-loaded = refl
 
--- the rate of the mode times the window and the time
+-- the allowance is the mode's rate times the window and the time
 pub allowance-by-mode : AllowanceByMode
 unfolding allowance
 allowance-by-mode s k j since =
@@ -147,7 +149,7 @@ rule-of-steps p ok steps = simulated steps (one-step p ok steps) [] (loaded p) (
 
 -- ---- the rule in words
 
--- an arrival that reaches the account has code 0 where the rule holds, and 9 where not
+-- an arrival that reaches the account has code 0 where the rule holds, else 9
 module _ (p : Terms) (past : List Reached) (n t : ℕ) (h : lastTime past ≤ t) where
   code-holds : ruleHolds (allowance p) t (cost p n) past ≡ true → ruleArrived p past n t .code ≡ 0
   unfolding ruleArrived
@@ -157,7 +159,7 @@ module _ (p : Terms) (past : List Reached) (n t : ℕ) (h : lastTime past ≤ t)
   unfolding ruleArrived
   code-fails e = simp (le-ltb _ _ h, e)
 
-  -- for any code that is the arrival's
+  -- the same for any code that is equal to the arrival's
   pub in-words : (c : ℕ) → c ≡ ruleArrived p past n t .code
       → ((c ≡ 0) ↔ FromEach (allowance p) t (cost p n) past) × ((FromEach (allowance p) t (cost p n) past → ⊥) → c ≡ 9)
   in-words c e =

@@ -11,7 +11,7 @@ use Rattle.account.specs.Step.{StepReport}
 use Rattle.account_rule.specs.Bucket.{costs}
 use Rattle.account_rule.specs.Rule.{StepCall, accountAfter, stepReports, allowance, stepRulePast}
 
--- a step and what it is to report
+-- a step, and what the step is to report
 pub record Case : Type 0 where
   pub step : StepCall
   pub reports : StepReport
@@ -48,8 +48,8 @@ byteCases =
 abbrev pub frameCases : List Case
 frameCases = case 64 0 0 100000 ∷ []
 
--- case 1; cases 2 to 10; case 11; and of case 3 the cost, of case 4 both sides of the rule from the first frame, of case 10
--- the topped-up credit
+-- case 1; cases 2 to 10; case 11; the cost of case 3, both sides of the rule from the first frame of case 4, and the
+-- topped-up credit of case 10
 abbrev pub BenchTable : Type 0
 BenchTable =
     (capacityOf (loaded (termsP byteMode)) ≡ 300000)

@@ -8,7 +8,7 @@ use mathlib.Core.Logic.{_↔_}
 use lib.ListN.{length, getD, take}
 use lib.Dec.{leb}
 
--- a frame that reached the bucket: its time, and its cost where it was forwarded, else 0
+-- a frame that reached the bucket: its time, and its cost where the frame was forwarded, else 0
 pub record Reached : Type 0 where
   pub at : ℕ
   pub forwarded : ℕ
@@ -18,13 +18,13 @@ reached t x = record { at = t; forwarded = x }
 
 -- ---- a list `past` of frames that reached the bucket has the newest first
 
--- the time of the last frame to reach it; where there is none, no time is before it
+-- the time of the last frame to reach the bucket; 0 where no frame has, so that no time is before it
 unfoldable pub lastTime : List Reached → ℕ
 lastTime [] = 0
 lastTime (r ∷ past) = r .at
 
--- the rule for a frame at time t, from each frame of `past`: `spent` is the frame's own cost and what was forwarded after all
--- of `past`. No frame of `past` is later than t where the rule is asked: the frame would be late
+-- the rule for a frame at time t, from each frame of `past`: `spent` is the frame's own cost and what was forwarded
+-- after all of `past`. Where the rule is asked, no frame of `past` is later than t, since the frame would be late
 unfoldable pub holdsFrom : (ℕ → ℕ) → ℕ → ℕ → List Reached → Bool
 holdsFrom allow t spent [] = true
 holdsFrom allow t spent (r ∷ past) =
@@ -41,19 +41,19 @@ unfoldable pub costs : List Reached → ℕ
 costs [] = 0
 costs (r ∷ past) = r .forwarded + costs past
 
--- from itself: no cost was forwarded since, and no time has passed
+-- the rule from the frame itself: no cost was forwarded since, and no time has passed
 abbrev pub FromItself : (ℕ → ℕ) → ℕ → Type 0
 FromItself allow x = x ≤ allow 0
 
--- from frame j of `past`, the newest being 0: the costs of frames j, .., 0 and its own are within the allowance of the time
--- since frame j
+-- the rule from frame j of `past`, the newest being 0: the costs of frames j, .., 0 and the judged frame's own are
+-- within the allowance of the time since frame j
 abbrev pub FromFrame : (ℕ → ℕ) → ℕ → ℕ → List Reached → ℕ → Type 0
 FromFrame allow t x past j = costs (take (suc j) past) + x ≤ allow (t - getD past j (reached 0 0) .at)
 
--- from itself and from every earlier frame
+-- the rule from the frame itself and from every earlier frame
 abbrev pub FromEach : (ℕ → ℕ) → ℕ → ℕ → List Reached → Type 0
 FromEach allow t x past = FromItself allow x × ((j : ℕ) → j < length past → FromFrame allow t x past j)
 
--- the test is that reading
+-- the test is the rule read literally
 abbrev pub RuleRead : Type 0
 RuleRead = (allow : ℕ → ℕ) (t x : ℕ) (past : List Reached) → (ruleHolds allow t x past ≡ true) ↔ FromEach allow t x past

@@ -22,7 +22,7 @@ pub record StepCall : Type 0 where
   pub octets : ℕ
   pub time : ℕ
 
--- ---- the steps: each on the account that the one before left
+-- ---- the steps: each on the account that the step before left
 abbrev pub steppingAccount : Machine Account StepCall StepReport
 steppingAccount =
     record {
@@ -30,7 +30,7 @@ steppingAccount =
       leaves = λ a s. policed a (s .octets) (s .time) .account;
     }
 
--- what the last step leaves, and what the steps answer
+-- the account that the last step leaves, and the reports of all steps
 abbrev pub accountAfter : Account → List StepCall → Account
 accountAfter a steps = final steppingAccount a steps
 
@@ -46,7 +46,7 @@ stepCodes = map (λ w. w .code)
 unfoldable pub allowance : Terms → ℕ → ℕ
 allowance p since = rate p * (bag (p .k) + p .jitter + since)
 
--- a code by the rule, and the frames that have then reached the account, the newest first
+-- a code by the rule, and the frames that have reached the account after the judged frame, the newest first
 pub record Ruled : Type 0 where
   pub code : ℕ
   pub past : List Reached
@@ -54,15 +54,15 @@ pub record Ruled : Type 0 where
 abbrev pub ruled : ℕ → List Reached → Ruled
 ruled c past = record { code = c; past = past }
 
--- a frame that no code before 8 refuses: 8 by the times of the frames that reached the account. Otherwise it reaches the
--- account, with 0 where the rule holds and 9 where not
+-- a frame that no code before 8 refuses: code 8 by the times of the frames that reached the account. Otherwise the
+-- frame reaches the account, with code 0 where the rule holds, else 9
 unfoldable pub ruleArrived : Terms → List Reached → ℕ → ℕ → Ruled
 ruleArrived p past n t =
     if ltb t (lastTime past) then ruled Codes.late past
     else if ruleHolds (allowance p) t (cost p n) past then ruled Codes.success (reached t (cost p n) ∷ past)
     else ruled Codes.short (reached t 0 ∷ past)
 
--- any frame: 1 or 2 by its length, else as above
+-- any frame: 1 or 2 by its length, else by `ruleArrived`
 unfoldable pub ruleStep : Terms → List Reached → ℕ → ℕ → Ruled
 ruleStep p past n t =
     if not (eqb (lengthCode n) Codes.success) then ruled (lengthCode n) past else ruleArrived p past n t
@@ -75,7 +75,7 @@ ruleOfAccount p =
       leaves = λ past s. ruleStep p past (s .octets) (s .time) .past;
     }
 
--- the codes, and the frames that have then reached the account
+-- the codes by the rule, and the frames that have reached the account after the last step
 abbrev pub stepRuleCodes : Terms → List Reached → List StepCall → List ℕ
 stepRuleCodes p past steps = answers (ruleOfAccount p) past steps
 
@@ -84,7 +84,7 @@ stepRulePast p past steps = final (ruleOfAccount p) past steps
 
 -- ---- the claims
 
--- the allowance by mode: in modes 2 and 3 with the greater Smax (Q-3). What frames cost is in terms' FormulasByMode
+-- the allowance by mode: in modes 2 and 3 with the greater Smax (Q-3). FormulasByMode of terms has what frames cost
 abbrev pub AllowanceByMode : Type 0
 AllowanceByMode =
     (s k j since : ℕ)
@@ -93,7 +93,8 @@ AllowanceByMode =
     × (allowance (termsWith s k j 2) since ≡ (s + 20) * (bag k + j + since))
     × (allowance (termsWith s k j 3) since ≡ (s + 20) * (bag k + j + since))
 
--- the rest is from values that an image may have, of any mode, with the credit at capacity and the last time 0
+-- the claims below start from values that an image may have, of any mode, with the credit at capacity and the last time
+-- 0
 
 -- for every list of steps the codes are those of the rule
 abbrev pub RuleOfSteps : Type 0
@@ -101,8 +102,8 @@ RuleOfSteps =
     (p : Terms) → termsGood p ≡ true → (steps : List StepCall)
     → stepCodes (stepReports (loaded p) steps) ≡ stepRuleCodes p [] steps
 
--- in words: after any list of steps, a frame that reaches the account gets 0 exactly where the sums from itself and from
--- every earlier frame that reached it are within the allowance, and 9 where not
+-- in words: after any list of steps, a frame that reaches the account gets 0 exactly where the sums from itself and
+-- from every earlier frame that reached the account are within the allowance, else 9
 abbrev pub StepsInWords : Type 0
 StepsInWords =
     (p : Terms) → termsGood p ≡ true → (before : List StepCall) (n t : ℕ)

@@ -1,16 +1,16 @@
-// Frame calls. By its first letter a line is
+// Frame calls. The first letter of a line says what the line is:
 //   # ..                                                 a heading
 //   account row Smax k jitter mode                       rows 0 to 3
 //   credit account credit
 //   time account time                                    the last time
 //   link row number port mask smallest largest account   rows 0 to 5
 //   given constant accounts links octets credits times link_octets
-//       the configured constant field, both counts, and how much is lent of account rows, credits, last times and link
+//       sets the constant field, both counts, and how much is lent of account rows, credits, last times and link
 //       rows
-//   base                                                 the tables to go back to
-//   reset                                                goes back to them
+//   base                                                 keeps the tables for `reset`
+//   reset                                                goes back to the tables of `base`
 //   frame octets constant link port time                 a frame call
-// A remainder keeps each number within its width; no case needs it.
+// A remainder keeps each number within its width; no case needs the remainder.
 use super::frames;
 use super::say;
 use super::script::Numbers;
@@ -23,7 +23,7 @@ use switch::Ingress;
 use switch_verdict::Verdict;
 use tables::Settings;
 
-// Prints a code with the credit that it carries; and a code that carries none.
+// Prints a code and the credit that comes with the code; and a code that comes with no credit.
 fn held(code: u8, credit: u32) {
     say::number(code as u64);
     say::mark(b'-');
@@ -35,7 +35,7 @@ fn refused(code: u8) {
     say::mark(b'-');
 }
 
-// Code, mask and credit, `-` for none.
+// Prints code, mask and credit, `-` for a value that the verdict doesn't carry.
 fn show(verdict: Verdict) {
     say::arrow();
     match verdict {
@@ -50,7 +50,7 @@ fn show(verdict: Verdict) {
     }
 }
 
-// All credits and last times.
+// Prints all credits and last times.
 fn show_state(credits: [u32; 4], lasts: [u64; 3081]) {
     say::mark(b'|');
     say::two(credits[0] as u64, credits[1] as u64);
@@ -58,7 +58,7 @@ fn show_state(credits: [u32; 4], lasts: [u64; 3081]) {
     say::words(&lasts, 0, 4);
 }
 
-// Prints the verdict on a frame by what is lent of the runs; returns the runs after it.
+// Prints the verdict on a frame, with only a part of each run lent; returns the runs after the call.
 fn judge_lent(
     frame: &[u8],
     ingress: Ingress,
@@ -88,7 +88,7 @@ fn judge_lent(
     }
 }
 
-// The same by a state.
+// Prints the verdict on a frame by a state; returns the runs after the call.
 fn judge(state: State, frame: &[u8], ingress: Ingress) -> Runs {
     let runs = state.runs;
     let rows = runs.rows;
@@ -107,7 +107,7 @@ fn judge(state: State, frame: &[u8], ingress: Ingress) -> Runs {
     )
 }
 
-// The call of a line; credits and last times are kept for the next.
+// Makes the frame call of a line; returns the state with the credits and last times that the call left.
 fn call(state: State, n: Numbers) -> State {
     let octets = frames::made(n.b, n.c);
     let ingress = Ingress {
@@ -121,7 +121,7 @@ fn call(state: State, n: Numbers) -> State {
     state::with_runs(state, runs)
 }
 
-// The settings, and how much is lent.
+// Returns the state with the settings of a line, and with how much is lent.
 fn set_given(state: State, n: Numbers) -> State {
     let settings = Settings {
         constant: (n.a % 0x0001_0000_0000) as u32,

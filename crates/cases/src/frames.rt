@@ -1,13 +1,13 @@
-// Frame reading. By its first letter a line is
+// Frame reading. The first letter of a line says what the line is:
 //   # ..              a heading
 //   frame octets      reads a frame with constant field 3, 0, 0, 9, link 258 and sequence number 77: code, link, sequence
 //                     number and length of the payload; then the constant field and the link number that the octets hold,
 //                     whatever the code
-// A remainder keeps each number within its width; no case needs it.
+// A remainder keeps each number within its width; no case needs the remainder.
 use super::say;
 use super::script::Numbers;
 
-// The octets of a frame: all after its link number are 0.
+// The octets of a frame with a constant field and a link number; all octets after these are 0.
 pub(crate) fn made(constant: u64, link: u64) -> [u8; 1519] {
     let mut octets = [0u8; 1519];
     octets_write::put_u32(&mut octets, 0, (constant % 0x0001_0000_0000) as u32);
@@ -15,7 +15,7 @@ pub(crate) fn made(constant: u64, link: u64) -> [u8; 1519] {
     octets
 }
 
-// The octets of a frame of so many; the sequence number is the fifth before the end.
+// The octets of a frame of `size` octets; the sequence number is the fifth octet from the end.
 fn numbered(size: usize) -> [u8; 1519] {
     let mut octets = made(50331657, 258);
     octets[std::num::wrapping_sub_usize(size, 5) % 1519] = 77;

@@ -1,15 +1,15 @@
-// Configuration images: reading, loading and writing; finding a link's row. By its first letter a line is
+// Configuration images: reading, loading and writing; finding a link's row. The first letter of a line says what the line is:
 //   # ..                                                  a heading
-//   image accounts links size offset : octets             reads an image: code and offset, then constant field and counts; one of
-//                                                         61 octets is also written from its rows: code and offset
-//   image .. : octets into octets credits times octets    loads it into account rows, credits, last times and link rows of so
-//                                                         much: the same, then what they hold
-//   image .. : octets write accounts links size           writes so many of its rows into a room of so much: code and offset,
+//   image accounts links size offset : octets             reads an image: code and offset, constant field and counts; an image
+//                                                         of 61 octets is also written from its rows: code and offset
+//   image .. : octets into octets credits times octets    loads the image into account rows, credits, last times and link rows
+//                                                         of so much: code and the rest as above, then what the runs hold
+//   image .. : octets write accounts links size           writes so many rows of the image into a room of a size: code, offset,
 //                                                         then what the room holds
 //   zeros accounts links                                  writes so many rows of zeros: code and offset
 //   find count number                                     finds a number in so many of four rows: the row, `-` for none
 // An image is image P with so many accounts and links, cut to a size, with eight octets from an offset on changed. A
-// remainder keeps each number within its width; no case needs it.
+// remainder keeps each number within its width; no case needs the remainder.
 use super::say;
 use super::script;
 use super::script::Numbers;
@@ -22,21 +22,22 @@ use rows::Found;
 // The head of image P.
 const HEAD: u64 = 0x01_0005_01_0300_0000;
 
-// Its account with Smax 200, and its link with number 7; those that follow have 201, 8 and so on.
+// The account of image P with Smax 200, and the link of image P with number 7; later accounts and links have 201, 8 and
+// so on.
 const ACCOUNT: u64 = 0x02_0006_00C8_00_01F4;
 
 const LINK: u64 = 0x03_000D_0007_02_0000;
 
 const LINK_REST: u64 = 0x0008_0040_00C8_0000;
 
-// The tag of its end, and an octet of the length.
+// The tag of the end field, and an octet of the end's length.
 const END: u16 = 0x0900;
 
 // Octets of an image of two accounts and two links.
 const TWO_OF_EACH: usize = 61;
 
-// Puts so many fields of `step` octets from `at` on: eight octets whose number at 3 rises by one from field to field, and
-// eight after them.
+// Writes n fields of `step` octets from `at` on: eight octets whose number at 3 rises by one from field to field, and
+// eight octets after these.
 fn put_fields(room: &mut [u8], at: u16, step: u8, n: u16, x: u64, y: u64) {
     let mut offset = at as usize;
     let mut i: u16 = 0;
@@ -49,7 +50,7 @@ fn put_fields(room: &mut [u8], at: u16, step: u8, n: u16, x: u64, y: u64) {
     }
 }
 
-// An image of so many accounts and links, with its end.
+// An image of so many accounts and links, with its end field.
 fn whole(accounts: u8, links: u16) -> [u8; 4720] {
     let first = 8 + 9 * accounts as u16;
     let mut image = [0u8; 4720];
@@ -60,7 +61,7 @@ fn whole(accounts: u8, links: u16) -> [u8; 4720] {
     image
 }
 
-// Code and offset, then the constant field and the counts.
+// Prints code and offset, then the constant field and the counts.
 fn show(a: ImageAnswer) {
     say::arrow();
     say::two(a.code as u64, a.offset as u64);
@@ -69,7 +70,7 @@ fn show(a: ImageAnswer) {
     say::three(s.constant as u64, s.accounts as u64, s.links as u64);
 }
 
-// What two rows of each run hold.
+// Prints what two rows of each run hold.
 fn show_runs(rows: [u8; 12], c: u32, d: u32, t: u64, u: u64, links: [u8; 26]) {
     say::octets(b"\naccounts", &rows);
     say::text(b"\ncredits, last times");
@@ -78,7 +79,7 @@ fn show_runs(rows: [u8; 12], c: u32, d: u32, t: u64, u: u64, links: [u8; 26]) {
     say::octets(b"\nlinks", &links);
 }
 
-// Loads into the first parts of runs that hold two rows each.
+// Loads an image into the first parts of runs that hold two rows each.
 fn load(image: &[u8], lent: Lent) {
     let mut rows = [170u8; 12];
     let mut credits = [7u32; 2];
@@ -94,7 +95,7 @@ fn load(image: &[u8], lent: Lent) {
     show_runs(rows, credits[0], credits[1], lasts[0], lasts[1], links);
 }
 
-// Two account rows of an image with two of each, and a third without its last octet.
+// The two account rows of an image with two accounts and two links, and a third row without its last octet.
 fn account_rows(image: &[u8]) -> [u8; 17] {
     let mut rows = [0u8; 17];
     octets_write::copy(image, 11, 6, &mut rows, 0);
@@ -102,7 +103,7 @@ fn account_rows(image: &[u8]) -> [u8; 17] {
     rows
 }
 
-// Two link rows, and a third without its last octet.
+// The two link rows of such an image, and a third row without its last octet.
 fn link_rows(image: &[u8]) -> [u8; 38] {
     let mut rows = [0u8; 38];
     octets_write::copy(image, 29, 13, &mut rows, 0);
@@ -110,13 +111,13 @@ fn link_rows(image: &[u8]) -> [u8; 38] {
     rows
 }
 
-// Code and offset.
+// Prints code and offset of a written image.
 fn show_written(w: Written) {
     say::mark(b'|');
     say::two(w.code as u64, w.offset as u64);
 }
 
-// Writes so many rows of an image into a room, which it returns.
+// Writes so many rows of an image into a room; returns the room.
 fn write(image: &[u8], accounts: u64, links: u64, size: u64) -> [u8; 64] {
     let mut room = [170u8; 64];
     show_written(image_write::write(
@@ -153,7 +154,7 @@ fn lent_by(words: Words) -> Lent {
     }
 }
 
-// What comes back of an image, by the word after its octets.
+// Answers an image by the word after the image's octets: loads, writes or reads the image.
 fn answer(image: &[u8], words: Words) {
     match (words[14] % 256) as u8 {
         b'i' => load(image, lent_by(words)),
@@ -162,7 +163,7 @@ fn answer(image: &[u8], words: Words) {
     }
 }
 
-// The image of a line, with its octets changed.
+// Makes the image of a line, with eight octets changed, and answers that image.
 fn image(n: Numbers, words: Words) {
     let mut image = whole((n.a % 256) as u8, (n.b % 512) as u16);
     octets_write::copy(
@@ -175,7 +176,7 @@ fn image(n: Numbers, words: Words) {
     answer(&image[0..n.c as usize % 4721], words);
 }
 
-// Writes so many rows of zeros; there are rows enough for one more than the most.
+// Writes so many rows of zeros; rows are lent for one more than each limit.
 fn zeros(accounts: usize, links: usize) {
     show_written(image_write::write(
         0x0300_0000,
@@ -187,7 +188,7 @@ fn zeros(accounts: usize, links: usize) {
     ));
 }
 
-// The link rows 7, 8, 8, and 9 without its last octet.
+// Four link rows with the numbers 7, 8, 8 and 9, the last row without its last octet.
 fn link_numbers() -> [u8; 51] {
     let mut rows = [0u8; 51];
     rows[1] = 7;
@@ -197,7 +198,7 @@ fn link_numbers() -> [u8; 51] {
     rows
 }
 
-// The row, `-` for none.
+// Prints the row found, `-` for none.
 fn show_row(found: Found) {
     say::arrow();
     match found {
@@ -206,7 +207,7 @@ fn show_row(found: Found) {
     }
 }
 
-// Finds a number in so many of these rows.
+// Finds a number in the first `count` rows of `link_numbers`.
 fn find(count: usize, number: u64) {
     show_row(tables::find(&link_numbers(), count, (number % 65536) as u16));
 }

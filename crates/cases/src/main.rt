@@ -1,6 +1,6 @@
-// Runs the worked cases of the scripts in `data`, a section each, and prints each line with what comes back, for comparison
-// with the file `stdout`. Each section starts with nothing set; its module says what its lines are. Of a script longer than
-// 65,536 octets the rest is not read.
+// Runs the worked cases of the scripts in `data`, one script a section, and prints each line with the answer to that
+// line, for comparison with the file `stdout`. Each section starts with nothing set; the section's module says what its
+// lines are. Of a script longer than 65,536 octets the rest is not read.
 mod calls;
 mod frames;
 mod images;
@@ -14,7 +14,7 @@ use script::Numbers;
 use script::Words;
 use state::State;
 
-// What is set after a line of `steps`.
+// The state after a line of `steps`.
 fn step(state: State, n: Numbers) -> State {
     let account = steps::line(state.account, n);
     let mut next = state;
@@ -22,7 +22,7 @@ fn step(state: State, n: Numbers) -> State {
     next
 }
 
-// What a section has set after a line.
+// The state after a line of any section.
 fn done(section: u8, state: State, base: State, n: Numbers, words: Words) -> State {
     match section {
         b'f' => frames::line(n),
@@ -34,12 +34,12 @@ fn done(section: u8, state: State, base: State, n: Numbers, words: Words) -> Sta
     state
 }
 
-// What to go back to: what is set at the line `base`.
+// The state that `reset` goes back to: the one at the line `base`.
 fn kept(base: State, state: State, verb: u8) -> State {
     if verb == b'b' { state } else { base }
 }
 
-// Prints each line of a script with what comes back, each on what the lines before it set.
+// Prints each line of a script with the answer to that line, each line on the state that the lines before it set.
 fn run(section: u8, text: &[u8]) {
     let mut state = state::fresh();
     let mut base = state;
@@ -58,7 +58,7 @@ fn run(section: u8, text: &[u8]) {
     }
 }
 
-// Runs the section of a file; the first letter of its name says which it is.
+// Runs the section of a file; the first letter of the file's name says which section.
 fn section(name: &[u8]) {
     let mut text = io::large_buffer();
     let file = os::open_read(name);

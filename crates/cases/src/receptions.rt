@@ -1,4 +1,4 @@
-// The receiving end. By its first letter a line is
+// The receiving end. The first letter of a line says what the line is:
 //   # ..                          a heading
 //   row row number SkewMax        rows 0 to 2
 //   lent octets words             how much is lent of rows and memories
@@ -6,8 +6,8 @@
 //   word row place value          a word of a memory, by its index
 //   show row                      the memory that is printed with each answer
 //   A link number time            a frame on network A
-//   B link number time            and on network B
-// A remainder keeps each number within its width; no case needs it.
+//   B link number time            a frame on network B
+// A remainder keeps each number within its width; no case needs the remainder.
 use super::say;
 use super::script::Numbers;
 use super::script::Words;
@@ -18,7 +18,7 @@ use receive_answer::Arrival;
 use receive_answer::Network;
 use receive_answer::Reception;
 
-// The answer's name, and its number.
+// Prints an answer's name and number.
 fn show(answer: Reception) {
     match answer {
         Reception::Delivered => say::text(b" -> delivered"),
@@ -30,7 +30,7 @@ fn show(answer: Reception) {
     say::number(answer.number() as u64);
 }
 
-// The last time, the last numbers on A and B, and the two words of a number's delivery on A and on B.
+// Prints the last time, the last numbers on A and B, and the two words of a number's delivery on A and on B.
 fn show_memory(memory: [u64; 3081], row: usize, number: u64) {
     let first = row % 3 * receive::MEMORY_WORDS;
     let a = first + 3 + 2 * (number % 256) as usize;
@@ -39,7 +39,7 @@ fn show_memory(memory: [u64; 3081], row: usize, number: u64) {
     say::words(&memory, a + 512, 2);
 }
 
-// Receives with what is lent of rows and memories; returns the memories after it.
+// Receives a frame, with a part of rows and memories lent; returns the memories after the call.
 fn received(frame: Arrival, lent: Lent, rows: [u8; 24], memory: [u64; 3081]) -> [u64; 3081] {
     let mut held = memory;
     show(receive::receive(
@@ -50,7 +50,7 @@ fn received(frame: Arrival, lent: Lent, rows: [u8; 24], memory: [u64; 3081]) -> 
     held
 }
 
-// The frame of a line; the memories are kept for the next.
+// Receives the frame of a line; returns the state with the memories that the call left.
 fn arrive(state: State, network: Network, n: Numbers) -> State {
     let frame = Arrival {
         link: (n.a % 65536) as u16,
@@ -66,7 +66,7 @@ fn arrive(state: State, network: Network, n: Numbers) -> State {
     state::with_runs(state, state::with_words(runs, memory))
 }
 
-// How much is lent of rows and memories.
+// Returns the state with how much is lent of rows and memories.
 fn set_lent(state: State, rows: usize, words: usize) -> State {
     let lent = Lent {
         rows,
@@ -79,7 +79,7 @@ fn set_lent(state: State, rows: usize, words: usize) -> State {
     next
 }
 
-// The row whose memory is printed.
+// Returns the state with another row whose memory is printed.
 fn set_shown(state: State, row: u64) -> State {
     let mut next = state;
     next.shown = row as usize;

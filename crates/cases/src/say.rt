@@ -1,4 +1,4 @@
-// Printing: words, and numbers with a blank before each.
+// Printing of words and of numbers; each number has a blank before it.
 use libc::STDOUT_FILENO;
 
 pub(crate) fn text(words: &[u8]) {
@@ -20,23 +20,23 @@ pub(crate) fn three(a: u64, b: u64, c: u64) {
     number(c);
 }
 
-// Before what comes back.
+// Prints the arrow between a line and its answer.
 pub(crate) fn arrow() {
     text(b" ->");
 }
 
-// Between its parts `|`, and `-` where there is no number.
+// Prints a mark: `|` between the parts of an answer, `-` for a missing number.
 pub(crate) fn mark(x: u8) {
     text(&[b' ', x]);
 }
 
-// A code with nothing beside it.
+// Prints a code with no credit.
 pub(crate) fn refused(code: u8) {
     number(code as u64);
     mark(b'-');
 }
 
-// A bar, then `count` words from an offset on.
+// Prints a bar, then `count` words from an offset on.
 pub(crate) fn words(run: &[u64], at: usize, count: u8) {
     mark(b'|');
     let mut i = at;
@@ -55,7 +55,7 @@ fn octet(x: u8) {
     number(x as u64);
 }
 
-// Words, then each octet of a run.
+// Prints words, then each octet of a run.
 pub(crate) fn octets(words: &[u8], run: &[u8]) {
     text(words);
     let mut i = 0;

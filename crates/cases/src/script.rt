@@ -1,18 +1,18 @@
-// The lines of a script. A line is words with a blank between. Each word is read as a number: what its digits spell or, of
-// a name, its first letter.
+// The lines of a script. A line is words with one blank between two words. Each word is read as a number: the number
+// that the word's digits spell or, for a name, the name's first letter.
 ghost use Prim.Native.Nat.{_≤_, _<_};
 ghost use lib.ListN.{length};
 
-// The words of a line in its order, 0 for each that isn't there. The last stands for every word beyond, and is not used.
+// The words of a line in order, 0 for a missing word. The last element stands for every further word, and is not used.
 pub(crate) type Words = [u64; 20];
 
-// A line: the offset of the newline that ends it, or the text's length, and its words.
+// A line: the offset of the newline that ends the line, or the text's length; and the line's words.
 pub(crate) struct Line {
     pub(crate) end: usize,
     pub(crate) words: Words,
 }
 
-// The words of a line by name: its first letter, and the seven after its first word.
+// The words of a line by name: the first letter of the first word, and the seven words after the first.
 pub(crate) struct Numbers {
     pub(crate) verb: u8,
     pub(crate) a: u64,
@@ -37,7 +37,7 @@ pub(crate) fn named(words: Words) -> Numbers {
     }
 }
 
-// A word with one octet more.
+// A word with one octet appended.
 fn joined(word: u64, x: u8) -> u64 {
     if x < b'0' {
         return word;
@@ -52,7 +52,7 @@ fn joined(word: u64, x: u8) -> u64 {
     word
 }
 
-// The index of the word after an octet, by the index before it.
+// The index of the word after an octet, from the index before that octet.
 fn word_after(word: usize, x: u8) -> usize
     requires { ⌜ word < 20 ⌝ }
     ensures { λ r. ⌜ r < 20 ⌝ }
@@ -86,7 +86,7 @@ pub(crate) fn read(text: &[u8], at: usize) -> Line
     Line { end, words }
 }
 
-// A number in the high octets of eight. A remainder keeps each number within its width; no case needs it.
+// A number in the high octets of eight. A remainder keeps each number within its width; no case needs the remainder.
 fn high(n: u64, width: u8) -> u64 {
     match width {
         1 => n % 256 * 0x0100_0000_0000_0000,

@@ -1,4 +1,4 @@
-// What the lines of a section have set.
+// The state that the lines of a section have set.
 use super::script;
 use super::script::Numbers;
 use super::script::Words;
@@ -9,7 +9,7 @@ use terms::Terms;
 // Words of a memory.
 const MEMORY: u64 = receive::MEMORY_WORDS as u64;
 
-// The runs that are lent: account rows or those of the receiving end, credits, last times or memories, link rows.
+// The runs that are lent: account rows or the rows of the receiving end, credits, last times or memories, link rows.
 pub(crate) struct Runs {
     pub(crate) rows: [u8; 24],
     pub(crate) credits: [u32; 4],
@@ -17,7 +17,7 @@ pub(crate) struct Runs {
     pub(crate) links: [u8; 78],
 }
 
-// How much is lent of each.
+// How much is lent of each run.
 pub(crate) struct Lent {
     pub(crate) rows: usize,
     pub(crate) credits: usize,
@@ -25,7 +25,8 @@ pub(crate) struct Lent {
     pub(crate) links: usize,
 }
 
-// The account of the policing steps; the runs, how much of them is lent, and the settings; the row whose memory is printed.
+// The account of the policing steps; the runs, how much of the runs is lent, and the settings; the row whose memory is
+// printed.
 pub(crate) struct State {
     pub(crate) account: Account,
     pub(crate) runs: Runs,
@@ -34,7 +35,7 @@ pub(crate) struct State {
     pub(crate) shown: usize,
 }
 
-// Nothing is set: all is 0.
+// The state in which nothing is set: all is 0.
 pub(crate) fn fresh() -> State {
     let terms = Terms {
         smax: 0,
@@ -82,7 +83,7 @@ pub(crate) fn with_words(runs: Runs, words: [u64; 3081]) -> Runs {
     next
 }
 
-// The runs after a row of six octets, whose numbers follow its own in a line, each by its width.
+// The runs after a row of six octets is set; the row's numbers follow the row's index in the line, each by its width.
 fn put_row(runs: Runs, row: u64, line: Words, widths: [u8; 8]) -> Runs {
     let mut rows = runs.rows;
     octets_write::copy(
@@ -97,7 +98,7 @@ fn put_row(runs: Runs, row: u64, line: Words, widths: [u8; 8]) -> Runs {
     next
 }
 
-// The runs after a link row.
+// The runs after a link row is set.
 fn put_link(runs: Runs, row: u64, line: Words) -> Runs {
     let mut links = runs.links;
     let octets = script::row(line, 2, [2, 1, 4, 2, 2, 2, 0, 0]);
@@ -119,7 +120,7 @@ fn put_word(runs: Runs, at: u64, word: u64) -> Runs {
     next
 }
 
-// The runs after a line that sets a part of them; `calls` and `receptions` say what the lines are.
+// The runs after a line that sets a part of the runs; `calls` and `receptions` say what such lines are.
 pub(crate) fn set(runs: Runs, n: Numbers, words: Words) -> Runs {
     let verb = n.verb;
     match verb {

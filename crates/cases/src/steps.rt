@@ -1,13 +1,13 @@
-// Policing steps and methods, on an account. By its first letter a line is
+// Policing steps and methods, on an account. The first letter of a line says what the line is:
 //   # ..                                        a heading
 //   account Smax k jitter mode credit last      sets the account
 //   step octets time                            a policing step: code and credit, `-` for none
-//   debit octets                                the account less a frame's cost: its credit
+//   debit octets                                the account less a frame's cost: the credit left
 //   top up credit time                          the account with a credit, topped up: credit and last time; the account stays
-//   capacity                                    its capacity
+//   capacity                                    the account's capacity
 //   cost mode octets                            a frame's cost in a mode
-//   last                                        its last time
-// A remainder keeps each number within its width; no case needs it.
+//   last                                        the account's last time
+// A remainder keeps each number within its width; no case needs the remainder.
 use super::say;
 use super::script::Numbers;
 use account::Account;
@@ -28,7 +28,7 @@ fn account_of(n: Numbers) -> Account {
     }
 }
 
-// Code and credit, `-` for none.
+// Prints code and credit, `-` for no credit.
 fn show(outcome: Outcome) {
     say::arrow();
     match outcome {
@@ -66,7 +66,7 @@ fn cost(mut account: Account, mode: u64, octets: usize) {
     say::number(account.cost(octets).units as u64);
 }
 
-// The capacity or, for a line that has octets, their cost.
+// Prints the capacity or, for a line with octets, the cost of these octets.
 fn figure(account: Account, mode: u64, octets: u64) {
     if octets == 0 {
         say::number(account.capacity().units as u64);

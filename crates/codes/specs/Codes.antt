@@ -1,8 +1,9 @@
--- The codes of every call, as the papers number them. Definitions and code name them; statements have their figures.
+-- The codes of every call, as the papers number them. Definitions and code name the codes; statements have their
+-- figures.
 use Prim.Native.Nat.{ℕ}
 
 -- ---- frame calls, policing steps and frame reading (document 01, "Codes, in order of checking"), and 0 of every call
--- forwarded, delivered, or no code fits
+-- success: forwarded, delivered, or no code fits
 abbrev pub success : ℕ
 success = 0
 
@@ -14,15 +15,15 @@ tooShort = 1
 abbrev pub tooLong : ℕ
 tooLong = 2
 
--- another constant field
+-- wrong constant field
 abbrev pub otherConstant : ℕ
 otherConstant = 3
 
--- no link of the number; also at the receiving end (document 02, Q-1)
+-- unknown virtual link; also at the receiving end (document 02, Q-1)
 abbrev pub unknownLink : ℕ
 unknownLink = 4
 
--- another input port
+-- wrong input port
 abbrev pub otherPort : ℕ
 otherPort = 5
 
@@ -42,12 +43,12 @@ late = 8
 abbrev pub short : ℕ
 short = 9
 
--- a link's row or its account breaks a rule
+-- invalid table entry: the link's row or its account breaks a rule, or the credit is above the capacity
 abbrev pub unsound : ℕ
 unsound = 10
 
 -- ---- reading, loading and writing an image (document 01, "The configuration image")
--- fewer than 3 octets left for a field, or its data cut
+-- fewer than 3 octets left for a field, or the field's data cut
 abbrev pub cut : ℕ
 cut = 20
 
@@ -75,11 +76,12 @@ surplus = 25
 abbrev pub noRoom : ℕ
 noRoom = 26
 
--- ---- the receiving end, beside 0, 4 and 8 (document 02, Q-1). The papers number no others; 30 and 31 are no code of theirs
+-- ---- the receiving end, beside 0, 4 and 8 (document 02, Q-1). The papers give no other answer a number; 30 and 31 are
+-- this project's
 -- the copy of a frame that was delivered
 abbrev pub copy : ℕ
 copy = 30
 
--- a number that doesn't follow
+-- out of sequence: a number that doesn't follow the last one
 abbrev pub outOfSequence : ℕ
 outOfSequence = 31

@@ -1,4 +1,4 @@
--- Answers in numbers, from those of the libraries. Assumes nothing.
+-- Answers in numbers, from the answers of the libraries. Assumes nothing.
 use Prim.Native.Nat.{ℕ}
 use mathlib.Core.Bool.{_&&_}
 use mathlib.Core.List.{List}
@@ -30,7 +30,7 @@ pub topped-keeps : (a : Account) (t : ℕ) → holding a (toppedUp a t .credit) 
 unfolding toppedUp
 topped-keeps a t = split (accountSound a && leb (a .last) t) (λ e. simp e) (λ e. simp e)
 
--- an account e, read as d: brought to a time, and policed
+-- an account d that is equal to e: brought to a time, and policed
 module _ (d e : Account) (p : d ≡ e) where
   pub top-up-done : (t : ℕ) (b : Account) → b ≡ toppedUp d t → holding e (b .credit) (b .last) ≡ toppedUp e t
   top-up-done t b q = ap (λ (x : Account). holding e (x .credit) (x .last)) (q ∙ ap (λ (x : Account). toppedUp x t) p) ∙ topped-keeps e t

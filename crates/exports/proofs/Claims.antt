@@ -1,4 +1,4 @@
--- The numbers that programs in other languages get. Assumes nothing.
+-- The numbers that programs in other languages get, each equal to a part of an answer. Assumes nothing.
 use mathlib.Core.Path.{refl, sym}
 use Rattle.exports.specs.Claims.{ExportFigures}
 use Rattle.exports.proofs.Answers.{network-b}

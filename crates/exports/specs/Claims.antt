@@ -1,6 +1,6 @@
--- The numbers that programs in other languages get (include/ashthulgo.h): each is the part of the answer that it is named for,
--- whichever the answer is (document 01, "Codes, in order of checking" and "The configuration image"; document 02, Q-1); proved in
--- proofs/Claims.antt.
+-- The numbers that programs in other languages get (include/ashthulgo.h): each number is the part of the answer that
+-- the number is named for, whichever the answer is (document 01, "Codes, in order of checking" and "The configuration
+-- image"; document 02, Q-1); proved in proofs/Claims.antt.
 use Prim.Native.Nat.{ℕ}
 use mathlib.Core.List.{List, [], _∷_, map}
 use mathlib.Core.Path.{_≡_}
@@ -36,7 +36,7 @@ AccountNumbers =
     × (accountWith smax k jitter mode credit last .credit ≡ credit)
     × (accountWith smax k jitter mode credit last .last ≡ last)
 
--- ---- the policing step: 0, 9 and 8 with their credit, any other code with 0; and the account after it
+-- ---- the policing step: 0, 9 and 8 with their credit, any other code with 0; and the account after the step
 abbrev pub StepFigures : Type 0
 StepFigures =
     ((code credit : ℕ) → (stepNumbers code credit .code ≡ code) × (stepNumbers code credit .credit ≡ credit))
@@ -47,8 +47,8 @@ StepFigures =
     × (stepDoneOf (stepped (Outcome.Late credit) a) ≡ stepDone (stepNumbers 8 credit) a)
     × (stepDoneOf (stepped (Outcome.Refused code) a) ≡ stepDone (stepNumbers code 0) a))
 
--- ---- the frame call: 0 with mask and credit, 9 and 8 with their credit and mask 0, any other code with zeros; and the state
--- after it
+-- ---- the frame call: 0 with mask and credit, 9 and 8 with their credit and mask 0, any other code with zeros; and the
+-- state after the call
 abbrev pub CallFigures : Type 0
 CallFigures =
     ((code mask credit : ℕ)
@@ -72,7 +72,8 @@ ImageNumbers =
     × (loadedWith code offset constant accounts links .settings .accounts ≡ accounts)
     × (loadedWith code offset constant accounts links .settings .links ≡ links)
 
--- ---- the receiving end: 0 is network A, any other number B; the numbers of the five answers; and the memory after them
+-- ---- the receiving end: 0 is network A, any other number B; the numbers of the five answers; and the memory after the
+-- call
 abbrev pub ReceptionFigures : Type 0
 ReceptionFigures =
     (networkOf 0 ≡ A)
@@ -82,7 +83,7 @@ ReceptionFigures =
     → map (λ a. receptionDoneOf (receivedOf a r)) (Delivered ∷ Copy ∷ OutOfSequence ∷ UnknownLink ∷ Late ∷ [])
     ≡ map (λ n. receptionDone n r) (0 ∷ 30 ∷ 31 ∷ 4 ∷ 8 ∷ []))
 
--- all of these
+-- all figures of the static library
 pub record ExportFigures : Type 0 where
   pub header : HeaderNumbers
   pub account : AccountNumbers

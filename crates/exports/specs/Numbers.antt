@@ -1,6 +1,6 @@
--- Answers of document 01 and of request Q-1 in numbers, as programs in other languages get them: one for each part, 0 for a
--- mask or a credit that an answer doesn't carry. By its code a caller knows which it carries ("Codes, in order of checking":
--- the verdict carries its own data).
+-- Answers of document 01 and of request Q-1 in numbers, as programs in other languages get them: one number for each
+-- part, 0 for a mask or a credit that an answer doesn't carry. By the code a caller knows which parts the answer
+-- carries ("Codes, in order of checking": the verdict carries its own data).
 use Prim.Native.Nat.{ℕ}
 use mathlib.Core.List.{List}
 use mathlib.Core.Option.{Option, none, some}
@@ -35,7 +35,7 @@ abbrev pub accountWith : ℕ → ℕ → ℕ → ℕ → ℕ → ℕ → Account
 accountWith smax k jitter mode credit last =
     accountOf (termsWith smax k jitter mode) credit last
 
--- ---- the policing step ("Credit, in whole units"): its code, the credit that it reports, and the account after it
+-- ---- the policing step ("Credit, in whole units"): the code, the credit reported, and the account after the step
 abbrev pub stepNumbers : ℕ → ℕ → StepNumbers
 stepNumbers code credit = record { code = code; credit = credit }
 
@@ -52,7 +52,8 @@ stepDone n a = record { says = n; account = a }
 abbrev pub stepDoneOf : Stepped → StepDone
 stepDoneOf q = stepDone (stepSays (q .says)) (q .account)
 
--- ---- the frame call ("Codes, in order of checking"): its code, the mask and the credit that it reports, and what it leaves
+-- ---- the frame call ("Codes, in order of checking"): the code, the mask and the credit reported, and the state after
+-- the call
 abbrev pub callNumbers : ℕ → ℕ → ℕ → CallNumbers
 callNumbers code mask credit = record { code = code; mask = mask; credit = credit }
 
@@ -74,7 +75,7 @@ abbrev pub loadedWith : ℕ → ℕ → ℕ → ℕ → ℕ → ImageAnswer
 loadedWith code offset constant accounts links =
     record { code = code; offset = offset; settings = settingsOf constant accounts links }
 
--- ---- the receiving end's call (document 02, Q-1): the number of its answer, and the memory that it leaves
+-- ---- the receiving end's call (document 02, Q-1): the number of the answer, and the memory after the call
 abbrev pub networkOf : ℕ → Network
 networkOf n = if eqb n 0 then A else B
 

@@ -1,4 +1,4 @@
-// An account, value by value: Smax, k, jitter, mode, credit and last time.
+// Account calls. An account is passed value by value: Smax, k, jitter, mode, credit and last time.
 ghost use mathlib.Core.Path.{_≡_};
 ghost use Rattle.account.specs.Account.{capacityOf, costOf, toppedUp};
 ghost use Rattle.account.specs.Step.{stepReported, policed};
@@ -49,7 +49,7 @@ fn numbers(outcome: Outcome) -> StepNumbers
     }
 }
 
-// The capacity; 0 where a policing step would refuse the account.
+// The capacity of an account; 0 where a policing step would refuse the account.
 #[no_mangle]
 pub extern "C" fn ashthulgo_capacity(smax: u16, k: u8, jitter: u16, mode: u8, credit: u32) -> u32
     ensures { λ r. ⌜ r ≡ capacityOf (accountWith smax k jitter mode credit 0) ⌝ }
@@ -74,7 +74,7 @@ pub extern "C" fn ashthulgo_cost(
     account.cost(octets).units
 }
 
-// The account brought to a time: its credit and last time are changed in place.
+// Brings an account to a time; the account's credit and last time are changed in place.
 #[no_mangle]
 pub extern "C" fn ashthulgo_top_up(
     smax: u16,
@@ -94,8 +94,8 @@ pub extern "C" fn ashthulgo_top_up(
     *last = next.last;
 }
 
-// The policing step: the account's credit and last time are changed in place; `reported` is the credit that the answer
-// carries.
+// The policing step: returns the code; the account's credit and last time are changed in place, and `reported` is the
+// credit that the answer carries.
 #[no_mangle]
 pub extern "C" fn ashthulgo_police(
     smax: u16,
@@ -122,8 +122,8 @@ pub extern "C" fn ashthulgo_police(
     said.code
 }
 
-// The policing step by way of an account that is lent to `account::police_in_place`: the same numbers as
-// `ashthulgo_police`.
+// The policing step by way of an account that is lent to `account::police_in_place`: returns and writes the same
+// numbers as `ashthulgo_police`.
 #[no_mangle]
 pub extern "C" fn ashthulgo_police_in_place(
     smax: u16,

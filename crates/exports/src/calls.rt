@@ -1,4 +1,4 @@
-// The frame call.
+// The frame call in numbers.
 ghost use mathlib.Core.Path.{_≡_};
 ghost use Rattle.tables.specs.Rows.{configOf};
 ghost use Rattle.switch_verdict.specs.Verdict.{reported};
@@ -43,7 +43,8 @@ fn numbers(verdict: Verdict) -> CallNumbers
     }
 }
 
-// A frame on a port at a time: its code; `mask` and `credit` are those that the verdict carries.
+// The frame call: returns the code of a frame on a port at a time; `mask` and `credit` are those that the verdict
+// carries.
 #[no_mangle]
 pub extern "C" fn ashthulgo_frame_call(
     frame: &[u8],

@@ -1,10 +1,11 @@
-// Reading a frame.
+// Frame reading in numbers.
 ghost use mathlib.Core.Path.{_≡_};
 ghost use lib.ListN.{length};
 ghost use Rattle.frame.specs.Frame.{headerOf, payloadOf};
 ghost use Rattle.exports.specs.Numbers.{headerWith};
 
-// The code, the virtual link, the sequence number, and the octets of the payload, which starts at octet 14.
+// Reads a frame: returns the code; writes the virtual link, the sequence number, and the length of the payload, which
+// starts at octet 14.
 #[no_mangle]
 pub extern "C" fn ashthulgo_read_frame(
     frame: &[u8],

@@ -1,4 +1,4 @@
-// Reading, loading and writing a configuration image.
+// Reading, loading and writing a configuration image, in numbers.
 ghost use mathlib.Core.Path.{_≡_};
 ghost use Rattle.tables.specs.Rows.{configOf};
 ghost use Rattle.image_read.specs.Read.{readImage};
@@ -8,7 +8,7 @@ ghost use Rattle.image_write.specs.Writing.{writtenOf, writingOf, writing};
 ghost use Rattle.exports.specs.Numbers.{loadedWith};
 use image_read::ImageAnswer;
 
-// An answer reported in numbers.
+// Writes the parts of an answer to the caller's places; returns the code.
 fn report(
     answer: ImageAnswer,
     offset: &mut usize,
@@ -25,7 +25,7 @@ fn report(
     answer.code
 }
 
-// What reading an image answers, with no tables lent.
+// Reads an image with no tables lent: returns the code; writes the rest of the answer.
 #[no_mangle]
 pub extern "C" fn ashthulgo_check(
     image: &[u8],
@@ -41,7 +41,7 @@ pub extern "C" fn ashthulgo_check(
     report(answer, offset, constant, account_count, link_count)
 }
 
-// Loads an image into lent tables.
+// Loads an image into lent tables: returns the code; writes the rest of the answer.
 #[no_mangle]
 pub extern "C" fn ashthulgo_load(
     image: &[u8],
@@ -91,7 +91,7 @@ pub extern "C" fn ashthulgo_reader_load(
     report(answer, offset, constant, account_count, link_count)
 }
 
-// Writes the image of the first rows of two tables.
+// Writes the image of the first rows of two tables: returns the code; writes the offset or the image's length.
 #[no_mangle]
 pub extern "C" fn ashthulgo_write(
     constant: u32,

@@ -1,4 +1,4 @@
-// The receiving end's call.
+// The receiving end's call in numbers.
 ghost use mathlib.Core.Path.{_≡_};
 ghost use Rattle.receive_answer.specs.Answer.{arrivalOf};
 ghost use Rattle.receive.specs.Receive.{received};
@@ -6,14 +6,14 @@ ghost use Rattle.exports.specs.Numbers.{networkOf, receptionDone, recept
 use receive_answer::Arrival;
 use receive_answer::Network;
 
-// 0 is network A, any other number network B.
+// The network of a number: 0 is network A, any other number network B.
 fn network_of(number: u8) -> Network
     ensures { λ r. ⌜ r ≡ networkOf number ⌝ }
 {
     if number == 0 { Network::A } else { Network::B }
 }
 
-// A frame that comes in on a link and a network: the number of its answer; the link's memory changes in place.
+// Receives a frame on a link and a network: returns the number of the answer; the link's memory changes in place.
 #[no_mangle]
 pub extern "C" fn ashthulgo_receive(
     link: u16,

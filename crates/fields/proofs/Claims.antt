@@ -14,7 +14,7 @@ use Rattle.fields.specs.Fields.{fieldOf, tagAndLength, lengthAt, standsA
 use Rattle.fields.specs.Claims.{FieldReadsBack, FieldSpelled, FieldFigures}
 use Rattle.fields.proofs.Fields.{length-field, field-is, tag-read, length-read, data-read, field-spelled, stands-tag, stands-length}
 
--- a field found again between other octets
+-- a spelled field stands whole between other octets
 module _ (before after bytes : List ℕ) (tag : ℕ) where
   abbrev run : List ℕ
   run = before ++ fieldOf tag bytes ++ after

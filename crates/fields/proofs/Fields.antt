@@ -16,7 +16,7 @@ use Rattle.octets.proofs.Parts.{length-part, getD-part, part-is, part-join, oct
 use Rattle.lists.proofs.Tests.{split, both}
 use Rattle.fields.specs.Fields.{fieldOf, tagAndLength, lengthAt, fieldAt, standsAt}
 
--- ---- as the code reads it: nothing past the end, else its parts
+-- ---- a field as the code reads it: all zeros past the end, else part by part
 module _ (s : List ℕ) (at : ℕ) where
   pub field-past : length s ≤ at → record { headed = false; tag = 0; size = 0; whole = false } ≡ fieldAt s at
   field-past h =
@@ -27,7 +27,7 @@ module _ (s : List ℕ) (at : ℕ) where
       → w ≡ leb (at + (tagAndLength + n)) (length s) → record { headed = h; tag = t; size = n; whole = w } ≡ fieldAt s at
   field-is h w t n eh et en ew = rw (eh, et, ew, en)
 
-  -- ---- whether it stands whole
+  -- ---- whether a field stands whole
   module _ (tag size : ℕ) where
     pub stands-not : length s < at + (tagAndLength + size) → false ≡ standsAt s at tag size
     unfolding standsAt
@@ -62,7 +62,7 @@ module _ (s : List ℕ) (at : ℕ) where
     pub stands-by : getD s at 0 ≡ tag → lengthAt s at ≡ size → at + (tagAndLength + size) ≤ length s → standsAt s at tag size ≡ true
     stands-by t n h = sym (stands-tested h (getD s at 0) refl t (lengthAt s at) refl) ∙ eq-eqb _ _ n
 
-    -- what a field that stands is like
+    -- what a field that stands whole is like
     module _ (e : standsAt s at tag size ≡ true) where
       parts : ((fieldAt s at .whole && eqb (getD s at 0) tag) ≡ true) × (eqb (lengthAt s at) size ≡ true)
       unfolding standsAt
@@ -100,7 +100,7 @@ module _ (tag : ℕ) (bytes : List ℕ) where
       let a : length (tag ∷ octetsOf 2 (length bytes)) + k ≡ tagAndLength + k = omega arith in
       ap (λ (i : ℕ). getD ((tag ∷ octetsOf 2 (length bytes)) ++ bytes) i 0) (sym a) ∙ getD-append-add (tag ∷ octetsOf 2 (length bytes)) bytes k 0
 
--- a field that stands at an offset: its tag, its length and its data are read there
+-- a field spelled at an offset: the tag, the length and the data are read there
 module _ (s : List ℕ) (at w tag : ℕ) (bytes : List ℕ) (l : length bytes ≡ w) (e : octetsAt (tagAndLength + w) s at ≡ fieldOf tag bytes) where
   octet : (k : ℕ) → k < tagAndLength + w → getD s (at + k) 0 ≡ getD (fieldOf tag bytes) k 0
   octet k h = sym (getD-part (tagAndLength + w) s at k h) ∙ ap (λ (xs : List ℕ). getD xs k 0) e
@@ -120,7 +120,7 @@ module _ (s : List ℕ) (at w tag : ℕ) (bytes : List ℕ) (l : length bytes �
       part-is w s (at + tagAndLength) bytes l
       (λ k b. ap (λ (i : ℕ). getD s i 0) (add-assoc at tagAndLength k) ∙ octet (tagAndLength + k) (omega arith) ∙ field-data tag bytes k)
 
--- and back: a tag and a length before w octets make a field of them
+-- a tag and a length before w octets spell a field with these octets as data
 pub field-spelled : (s : List ℕ) (at w tag : ℕ) → ((i : ℕ) → getD s i 0 < 256) → getD s at 0 ≡ tag → numberAt 2 s (at + 1) ≡ w
     → octetsAt (tagAndLength + w) s at ≡ fieldOf tag (octetsAt w s (at + tagAndLength))
 unfolding fieldOf
@@ -131,7 +131,7 @@ field-spelled s at w tag o t n =
     part-join tagAndLength w s at
     ∙ ap (λ (xs : List ℕ). xs ++ octetsAt w s (at + tagAndLength)) (part-join 1 2 s at ∙ ap₂ _++_ one two)
 
--- its length
+-- the length of a spelled field
 pub length-field : (tag : ℕ) (bytes : List ℕ) → length (fieldOf tag bytes) ≡ tagAndLength + length bytes
 unfolding fieldOf
 length-field tag bytes =

@@ -8,7 +8,7 @@ use Rattle.octets.specs.Runs.{octetsAt}
 use Rattle.fields.specs.declared.Field.{Field}
 use Rattle.fields.specs.Fields.{fieldOf, tagAndLength, fieldAt, standsAt}
 
--- a field that is spelled reads back, whatever stands before and after it: its tag, its length and its data
+-- a field that is spelled reads back, whatever stands before and after it: tag, length and data
 abbrev pub FieldReadsBack : Type 0
 FieldReadsBack =
     (before after bytes : List ℕ) (tag : ℕ) → length bytes < 2 ^ 16
@@ -26,8 +26,8 @@ FieldSpelled =
 abbrev pub field : Bool → ℕ → ℕ → Bool → Field
 field headed tag size whole = record { headed = headed; tag = tag; size = size; whole = whole }
 
--- a field of tag 7 cut after two octets, after its length, after one octet of data; a whole one; no octets at all. A field stands
--- only with its own tag, its own length and all its data
+-- a field of tag 7 cut after two octets, after its length, after one octet of data; a whole field; no octets at all. A
+-- field stands only with its own tag, its own length and all its data
 abbrev pub FieldFigures : Type 0
 FieldFigures =
     (map (λ s. fieldAt s 0) ((7 ∷ 1 ∷ []) ∷ (7 ∷ 1 ∷ 2 ∷ []) ∷ (7 ∷ 0 ∷ 2 ∷ 8 ∷ []) ∷ (7 ∷ 0 ∷ 2 ∷ 8 ∷ 9 ∷ []) ∷ [] ∷ [])

@@ -8,11 +8,11 @@ use lib.Dec.{leb, eqb}
 use Rattle.octets.specs.Numbers.{numberAt, octetsOf}
 use Rattle.fields.specs.declared.Field.{Field}
 
--- the octets of a field
+-- the octets of a field with a tag and data
 unfoldable pub fieldOf : ℕ → List ℕ → List ℕ
 fieldOf tag bytes = tag ∷ octetsOf 2 (length bytes) ++ bytes
 
--- octets of its tag and length
+-- octets of a field's tag and length
 abbrev pub tagAndLength : ℕ
 tagAndLength = 3
 
@@ -20,7 +20,7 @@ tagAndLength = 3
 abbrev pub lengthAt : List ℕ → ℕ → ℕ
 lengthAt s at = numberAt 2 s (at + 1)
 
--- what stands at an offset: whether tag and length are there, both, and whether the data are
+-- what stands at an offset: whether tag and length are there, the tag, the length, and whether all data are there
 abbrev pub fieldAt : List ℕ → ℕ → Field
 fieldAt s at =
     record {
@@ -30,6 +30,6 @@ fieldAt s at =
       whole = leb (at + (tagAndLength + lengthAt s at)) (length s);
     }
 
--- whether a field of this tag and this length stands there whole
+-- whether a field of this tag and this length stands whole at an offset
 unfoldable pub standsAt : List ℕ → ℕ → ℕ → ℕ → Bool
 standsAt s at tag size = fieldAt s at .whole && eqb (fieldAt s at .tag) tag && eqb (fieldAt s at .size) size

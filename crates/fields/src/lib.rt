@@ -1,12 +1,12 @@
-// Tagged fields: one octet tag, two octets length, then the data. The configuration image and the records of a log are
-// made of them. Every function is total: an octet past the end reads as 0.
+// Tagged fields: one octet tag, two octets length, then the data. The configuration image and a log are made of such
+// fields. Every function is total: an octet past the end reads as 0.
 ghost use mathlib.Core.Path.{_≡_};
 ghost use Rattle.fields.specs.Fields.{fieldAt, standsAt};
 
 // Octets of a field's tag and length.
 pub const TAG_AND_LENGTH: usize = 3;
 
-// What stands at an offset: the tag and the length, whether both are there, and whether all data are.
+// What stands at an offset: the tag and the length, whether both are there, and whether all data are there.
 pub struct Field {
     pub headed: bool,
     pub tag: u8,
@@ -14,7 +14,7 @@ pub struct Field {
     pub whole: bool,
 }
 
-// The field at an offset.
+// The field at an offset; an octet past the end reads as 0.
 pub fn read(run: &[u8], at: usize) -> Field
     ensures { λ r. ⌜ r ≡ fieldAt (now (run .entry)) at ⌝ }
 {

@@ -38,7 +38,7 @@ module _ (constant : ℕ) (f : List ℕ) (h : ℕ) (e : h ≡ lengthCode (length
     unfolding frameCode
     frame-passes d = simp (good-length, eq-eqb (constantField f) constant (sym q ∙ d))
 
--- the same by whether the length is a frame's, as the code asks first
+-- the code of the frame alone, by whether the length is a frame's, as the code asks first
 module _ (constant : ℕ) (f : List ℕ) (b : Bool) (e : b ≡ eqb (lengthCode (length f)) 0) where
   pub code-length : not b ≡ true → (r : ℕ) → r ≡ lengthCode (length f) → r ≡ frameCode constant f
   code-length h r q = q ∙ frame-length constant f (lengthCode (length f)) refl (eqb-false _ _ (sym e ∙ not-true b h))
@@ -70,7 +70,7 @@ frame-code-high constant f =
     (λ d. rw (← frame-passes constant f 0 (sym e) refl (constantField f) refl (eqb-true _ _ d)) (omega arith))
     (λ d. rw (← frame-constant constant f 0 (sym e) refl (constantField f) refl (eqb-false _ _ d)) (omega arith)))
 
--- ---- the link
+-- ---- the codes by the link
 module _ (l : Link) (n port : ℕ) where
   pub port-other : (port ≡ l .port → ⊥) → 5 ≡ portCode l n port
   unfolding portCode
@@ -99,7 +99,7 @@ module _ (l : Link) (n port : ℕ) where
       (λ d. split (ltb (l .largest) n) (λ c. simp (e, d, c) (omega arith)) (λ c. simp (e, d, c) (omega arith))))
       (λ e. simp e (omega arith))
 
-  -- what 0 says of the largest size
+  -- a frame with code 0 is at most of the link's largest size
   pub passed-largest : portCode l n port ≡ 0 → n ≤ l .largest
   unfolding portCode
   passed-largest z =
@@ -120,7 +120,7 @@ route-by : (links : List ℕ) (d : Found) → routeBy (lookupIn links d) ≡ rou
 route-by links (At j) = refl
 route-by links Nowhere = refl
 
--- ---- and by the code h of the frame alone
+-- ---- the route, by the code h of the frame alone
 module _ (f : List ℕ) (constant : ℕ) (links : List ℕ) (count h : ℕ) (e : h ≡ frameCode constant f) where
   pub route-stopped : (h ≡ 0 → ⊥) → Stopped h ≡ routed f constant links count
   unfolding routed

@@ -1,17 +1,17 @@
-// The filter of a frame: the codes that are checked before a link's account is looked at, and the link itself. All
-// functions are total.
+// The filter of a frame: the codes that are checked before a link's account is looked at, and the link itself. Every
+// function is total.
 ghost use mathlib.Core.Path.{_≡_};
 ghost use Rattle.filter.specs.Filter.{frameCode, portCode, routed};
 use tables::Link;
 use tables::Lookup;
 
-// What is found before the account is looked at: a refusal's code, or the link.
+// The route of a frame before the account is looked at: a refusal's code, or the link.
 pub enum Route {
     Stopped(u8),
     OnLink(Link),
 }
 
-// The first of the codes 1, 2 and 3 that fits, or 0.
+// The code by the frame alone: the first of 1, 2 and 3 that fits, or 0.
 pub fn frame_code(frame: &[u8], constant: u32) -> u8
     ensures { λ r. ⌜ r ≡ frameCode constant (now (frame .entry)) ⌝ }
 {
@@ -25,7 +25,7 @@ pub fn frame_code(frame: &[u8], constant: u32) -> u8
     codes::SUCCESS
 }
 
-// The link of a frame, or the code that stops it before: 1, 2, 3 or 4.
+// The link of a frame, or the code that stops the frame: 1, 2, 3 or 4.
 pub fn find_link(frame: &[u8], constant: u32, links: &[u8], count: usize) -> Route
     ensures { λ r. ⌜ r ≡ routed (now (frame .entry)) constant (now (links .entry)) count ⌝ }
 {
@@ -41,7 +41,7 @@ pub fn find_link(frame: &[u8], constant: u32, links: &[u8], count: usize) -> Rou
     }
 }
 
-// The first of the codes 5, 6 and 7 that fits, or 0.
+// The code by the link: the first of 5, 6 and 7 that fits, or 0.
 pub fn port_code(link: Link, octets: usize, port: u32) -> u8
     ensures { λ r. ⌜ r ≡ portCode link octets port ⌝ }
 {

@@ -27,7 +27,7 @@ module _ (n : ℕ) where
   unfolding lengthCode
   length-good h k = simp (le-ltb _ _ h, le-ltb _ _ k)
 
-  -- by cases
+  -- case analysis of a length
   pub by-length : {P : Type 0} → (n < smallestFrame → lengthCode n ≡ 1 → P)
       → (smallestFrame ≤ n → largestFrame < n → lengthCode n ≡ 2 → P)
       → (smallestFrame ≤ n → n ≤ largestFrame → lengthCode n ≡ 0 → P) → P
@@ -47,7 +47,7 @@ module _ (n : ℕ) where
       (λ _ _ e. absurd (omega arith))
       (λ h k _. (h, k))
 
-  -- whether the code is 0, by the tests of the code
+  -- whether a length is a frame's, test by test as the code makes them
   pub size-short : n < smallestFrame → false ≡ eqb (lengthCode n) 0
   size-short h = sym (ap (λ (c : ℕ). eqb c 0) (length-short h))
 

@@ -10,7 +10,7 @@ use Rattle.octets.specs.Spelled.{Part, part, spelled, Fit}
 use Rattle.frame.specs.Frame.{lengthCode, constantField, linkNumber, sequenceFromEnd, headerOf}
 use Rattle.frame.specs.Frame.{payloadStart, payloadOf, payloadPlace}
 
--- the limits at both sides
+-- the limits of a length at both sides
 abbrev pub LengthLimits : Type 0
 LengthLimits = (lengthCode 63 ≡ 1) × (lengthCode 64 ≡ 0) × (lengthCode 1518 ≡ 0) × (lengthCode 1519 ≡ 2)
 
@@ -22,13 +22,13 @@ ReadingAnswers = (f : List ℕ) → List·Memᴰ (headerOf f .code) (0 ∷ 1 ∷
 abbrev pub ReadingCodes : Type 0
 ReadingCodes = (f : List ℕ) → headerOf f .code ≡ firstFit (line 1 (ltb (length f) 64) ∷ line 2 (ltb 1518 (length f)) ∷ [])
 
--- a refused frame has no link, no sequence number and no payload; its part stands where the frame starts
+-- a refused frame has no link, no sequence number and no payload; the part handed back stands where the frame starts
 abbrev pub ReadingRefused : Type 0
 ReadingRefused =
     (f : List ℕ) (place : ℕ × ℕ) → (headerOf f .code ≡ 0 → ⊥)
     → (headerOf f .link ≡ 0) × (headerOf f .sequence ≡ 0) × (payloadOf f ≡ []) × (payloadPlace place f ≡ place)
 
--- how long the payload of a frame is that is read, and so in the smallest and in the largest
+-- the length of the payload of a frame that is read, and so in the smallest and in the largest frame
 abbrev pub PayloadLength : Type 0
 PayloadLength =
     (f : List ℕ) → headerOf f .code ≡ 0
@@ -36,8 +36,9 @@ PayloadLength =
     × (length f ≡ 64 → length (payloadOf f) ≡ 45)
     × (length f ≡ 1518 → length (payloadOf f) ≡ 1499)
 
--- ---- a frame spelled from its values reads back: the constant field (4), the virtual link (2), eight octets more of addresses
--- and type, the payload, the sequence number (1) and the frame check sequence (4), whatever those that are not judged are
+-- ---- a frame spelled from its values reads back: the constant field (4), the virtual link (2), eight further octets
+-- of addresses and type, the payload, the sequence number (1) and the frame check sequence (4), whatever the octets
+-- that are not judged
 abbrev pub headParts : ℕ → ℕ → List Part
 headParts constant link = part 4 constant ∷ part 2 link ∷ []
 
@@ -57,7 +58,7 @@ FrameReadsBack =
     → length between ≡ 8 → 45 ≤ length payload → length payload ≤ 1499 → length check ≡ 4
     → FrameRead constant link payload sequence (frameOf constant link between payload sequence check)
 
--- a frame of 64 octets that all differ: what it reads as, and where its payload stands, in figures
+-- a frame of 64 octets that all differ: its values, and where its payload stands, in figures
 abbrev pub samplePayload : List ℕ
 samplePayload =
     15 ∷ 16 ∷ 17 ∷ 18 ∷ 19 ∷ 20 ∷ 21 ∷ 22 ∷ 23 ∷ 24 ∷ 25 ∷ 26 ∷ 27 ∷ 28 ∷ 29 ∷ 30 ∷ 31 ∷ 32 ∷ 33 ∷ 34 ∷ 35 ∷ 36 ∷ 37 ∷ 38 ∷ 39

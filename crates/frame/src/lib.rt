@@ -35,7 +35,7 @@ pub fn length_code(octets: usize) -> u8
     codes::SUCCESS
 }
 
-// Whether a frame can have so many octets: whether that code is 0.
+// Whether a frame can have so many octets: whether `length_code` is 0.
 pub fn is_frame_size(octets: usize) -> bool
     ensures { λ r. ⌜ r ≡ eqb (lengthCode octets) 0 ⌝ }
 {

@@ -1,4 +1,4 @@
--- Laws of the checks of one field, case by case as the code makes them. Assumes nothing.
+-- Laws of the checks of one field, case by case as the code makes the checks. Assumes nothing.
 use Prim.Native.Nat.{ℕ}
 use mathlib.Core.Bool.{Bool, true, false}
 use mathlib.Core.List.{List}
@@ -57,7 +57,7 @@ module _ (tag n m : ℕ) where
       unfolding inOrder
       order-end d = simp (ne-eqb _ _ h, ne-eqb _ _ d, ne-eqb _ _ k)
 
--- ---- what a tag's field is like
+-- ---- what the field of each tag is like
 pub octets-account : (tag : ℕ) → tag ≡ accountTag → accountOctets ≡ dataOctets tag
 unfolding dataOctets
 octets-account tag e = simp (eq-eqb _ _ e)

@@ -12,8 +12,8 @@ use Rattle.tables_rules.specs.Rules.{accountGood, linkGood}
 use Rattle.image_layout.specs.Layout.{constantGood}
 use Rattle.image_field.specs.Checks.{headCode, accountFields, linkFields, inOrder, dataOctets, isFull, valuesGood, nextCode}
 
--- the lines of a field at an offset, whose data are to be so long: 20 fewer than 3 octets left; 21 a tag unknown or out of order;
--- 22 another length; 20 data cut; 24 one field too many; 23 a bad value
+-- the lines of a field at an offset, whose data are to have a given length: 20 fewer than 3 octets left; 21 a tag
+-- unknown or out of order; 22 a wrong length; 20 data cut; 24 one field too many; 23 a bad value
 abbrev pub fieldLines : List ℕ → ℕ → Bool → ℕ → Bool → Bool → List Line
 fieldLines s at order size full good =
     line 20 (ltb (length s) (at + 3))
@@ -30,7 +30,7 @@ HeadCodesInOrder =
     (s : List ℕ)
     → headCode s ≡ firstFit (fieldLines s 0 (eqb (getD s 0 0) 1) 5 false (eqb (getD s 3 0) 1 && constantGood (numberAt 4 s 4)))
 
--- the field after n accounts and m links: it stands at 8 + 9 n + 16 m
+-- the field after n accounts and m links, which stands at 8 + 9 n + 16 m
 abbrev pub nextAt : ℕ → ℕ → ℕ
 nextAt n m = 8 + 9 * n + 16 * m
 
@@ -48,7 +48,8 @@ TagsInOrder =
     × (inOrder tag (suc n) 0 ≡ (eqb tag 2 || eqb tag 3))
     × (inOrder tag (suc n) (suc m) ≡ (eqb tag 3 || eqb tag 9))
 
--- what each tag's field is: 6 octets and at most 64 of them, 13 and at most 256, none; and whose values are judged
+-- what the field of each tag is: an account of 6 octets, at most 64 accounts; a link of 13 octets, at most 256 links;
+-- the end of none; and whose values are judged
 pub record ByTag (s : List ℕ) (n m : ℕ) : Type 0 where
   pub lengths : map dataOctets (2 ∷ 3 ∷ 9 ∷ []) ≡ 6 ∷ 13 ∷ 0 ∷ []
   pub too-many : map (λ tag. isFull tag n m) (2 ∷ 3 ∷ 9 ∷ []) ≡ leb 64 n ∷ leb 256 m ∷ false ∷ []

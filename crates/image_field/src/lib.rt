@@ -4,7 +4,7 @@ ghost use mathlib.Core.Path.{_≡_};
 ghost use Rattle.image_field.specs.Checks.{fieldCode, headGood, headCode, inOrder, dataOctets, isFull, valuesGood, nextCode};
 use fields::Field;
 
-// The code of a field, or 0: of the octets left, the tag, the length, the data, the limit and the values.
+// The code of a field, or 0: by the octets left, the tag, the length, the data, the limit and the values.
 fn field_code(field: Field, order: bool, size: usize, full: bool, good: bool) -> u8
     ensures { λ r. ⌜ r ≡ fieldCode field order size full good ⌝ }
 {
@@ -71,7 +71,7 @@ fn in_order(tag: u8, accounts: u16, links: u16) -> bool
     tag == image_layout::END_TAG
 }
 
-// The octets of data that a tag has.
+// The length of a tag's data.
 fn data_octets(tag: u8) -> usize
     ensures { λ r. ⌜ r ≡ dataOctets tag ⌝ }
 {
@@ -84,7 +84,7 @@ fn data_octets(tag: u8) -> usize
     0
 }
 
-// Whether one field more of this tag is over the limit.
+// Whether one more field of this tag is over the limit.
 fn is_full(tag: u8, accounts: u16, links: u16) -> bool
     ensures { λ r. ⌜ r ≡ isFull tag accounts links ⌝ }
 {

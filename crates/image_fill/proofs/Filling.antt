@@ -28,7 +28,7 @@ row-clamped s first start size i e =
     let x : ℕ = (tagAndLength + size) * i in
     rw (add-assoc start x k, add-assoc first x k) (getD-from s first (x + k) e refl))
 
--- all rows, of accounts and of links
+-- all rows written, of accounts and of links
 module _ (s d e : List ℕ) (at : ℕ) where
   pub accounts-written : (n : ℕ) → at ≡ dataOffset 0 0 → e ≡ put d 0 (joined (rowOctets accountOctets (fieldRows s at accountOctets)) n) → e ≡ put d 0 (accountRows s n)
   unfolding accountRows
@@ -38,7 +38,7 @@ module _ (s d e : List ℕ) (at : ℕ) where
   unfolding linkRows
   links-written n m p v = v ∙ ap (λ (a : ℕ). put d 0 (joined (rowOctets linkOctets (fieldRows s a linkOctets)) m)) p
 
--- ---- the capacity of an account: as the method gives it, and as the formula does
+-- ---- the capacity of an account: as the method gives it, and as the formula gives it
 abbrev pub methodCapacity : List ℕ → ℕ → List ℕ
 methodCapacity s i = checkedCapacity (accountIn (accountFields s) i) ∷ []
 

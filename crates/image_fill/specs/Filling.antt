@@ -19,7 +19,7 @@ pub record Runs : Type 0 where
 abbrev pub runsOf : List ℕ → List ℕ → List ℕ → List ℕ → Runs
 runsOf a c t l = record { accounts = a; credits = c; lasts = t; links = l }
 
--- ---- what is written: the data of n accounts, of m links after them, and the accounts' capacities
+-- ---- what is written: the rows of n accounts, the rows of m links after these accounts, and the accounts' capacities
 unfoldable pub accountRows : List ℕ → ℕ → List ℕ
 accountRows s n = joined (rowOctets accountOctets (accountFields s)) n
 
@@ -32,11 +32,11 @@ fullCredit a i = capacity (accountIn a i)
 unfoldable pub capacities : Rows → ℕ → List ℕ
 capacities a n = joined (λ i. fullCredit a i ∷ []) n
 
--- the same as the code takes them: 0 for values that break a limit, which an accepted image does not have
+-- the capacities as the code takes them: 0 for values that break a limit, which an accepted image does not have
 abbrev pub checkedCapacities : List ℕ → ℕ → List ℕ
 checkedCapacities s n = joined (λ i. checkedCapacity (accountIn (accountFields s) i) ∷ []) n
 
--- the runs begin with that, and are otherwise as they were
+-- the runs after filling: they begin with the rows, the capacities and zeros, and are otherwise as they were
 unfoldable pub filled : List ℕ → ℕ → ℕ → Runs → Runs
 filled s n m r =
     runsOf

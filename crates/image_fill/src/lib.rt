@@ -8,7 +8,7 @@ ghost use Rattle.tables.specs.Rows.{accountIn};
 ghost use Rattle.image_field.specs.Checks.{fieldRows, accountFields};
 ghost use Rattle.image_fill.specs.Filling.{checkedCapacities, accountRows, linkRows};
 
-// The data of n fields of `size` octets, the first at `first`, written side by side.
+// Writes the data of n fields of `size` octets, the first field at `first`, side by side into `rows`.
 fn copy_rows(image: &[u8], first: usize, size: u8, n: u16, rows: &mut [u8])
     ensures { λ r. ⌜ now (rows .exit) ≡ put (now (rows .entry)) 0 (joined (rowOctets size (fieldRows (now (image .entry)) first size)) n) ⌝ }
 {
@@ -25,14 +25,14 @@ fn copy_rows(image: &[u8], first: usize, size: u8, n: u16, rows: &mut [u8])
     }
 }
 
-// The capacity of an account of the image.
+// The capacity of account i of the image.
 fn capacity_of(image: &[u8], i: u16) -> u32
     ensures { λ r. ⌜ r ≡ checkedCapacity (accountIn (accountFields (now (image .entry))) i) ⌝ }
 {
     tables::terms_at(image, image_layout::data_offset(i, 0)).capacity()
 }
 
-// The capacities of the first n accounts.
+// Writes the capacities of the first n accounts into `credits`.
 fn fill_credits(image: &[u8], n: u16, credits: &mut [u32])
     ensures { λ r. ⌜ now (credits .exit) ≡ put (now (credits .entry)) 0 (checkedCapacities (now (image .entry)) n) ⌝ }
 {
@@ -46,7 +46,7 @@ fn fill_credits(image: &[u8], n: u16, credits: &mut [u32])
     }
 }
 
-// Zeros for the first n last times.
+// Writes zeros for the first n last times.
 fn clear_lasts(n: u16, lasts: &mut [u64])
     ensures { λ r. ⌜ now (lasts .exit) ≡ put (now (lasts .entry)) 0 (replicate n 0) ⌝ }
 {
@@ -60,7 +60,7 @@ fn clear_lasts(n: u16, lasts: &mut [u64])
     }
 }
 
-// The rows of n accounts with their credits and last times, and the rows of m links.
+// Fills the four runs: the rows of n accounts with their credits and last times, and the rows of m links.
 pub fn fill_runs(
     image: &[u8],
     n: u16,

@@ -1,4 +1,4 @@
--- The figures, computed. Assumes nothing.
+-- The figures of the layout, computed. Assumes nothing.
 use Prim.Native.Nat.{ℕ, _+_, _*_, _/_, _%_, _^_}
 use mathlib.Core.Path.{_≡_, refl, ap}
 use native.Mathlib.Omega.{arith}

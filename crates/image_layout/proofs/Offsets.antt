@@ -15,7 +15,8 @@ pub link-offset : (n j : ℕ) → dataOffset n j ≡ dataOffset n 0 + linkSize *
 unfolding fieldOffset
 link-offset n j = omega arith
 
--- ---- a size in one octet, a field's head beside it, times a count in two octets
+-- ---- the product of a field's size and a count: data of one octet's length, tag and length beside them, a count of
+-- two octets
 pub small-product : (x y : ℕ) → x < 2 ^ 8 + tagAndLength → y < 2 ^ 16 → x * y < 2 ^ 25
 small-product x y h k =
     let hx : x ≤ 258 = omega arith in

@@ -16,14 +16,15 @@ ImageFigures =
     × (headSize ≡ 8) × (accountSize ≡ 9) × (linkSize ≡ 16) × (tagAndLength ≡ 3)
     × (maxAccounts ≡ 64) × (maxLinks ≡ 256) × (longestImage ≡ 4683) × (imagePrefix ≡ 4696)
 
--- constant fields with zeros after the first octet: 00, 01, 02 and FC lack a low bit, 03, 07 and FF do not; and 00 00 00 03,
--- which has these bits in another octet
+-- constant fields with zeros after the first octet: 00, 01, 02 and FC lack a low bit; 03, 07 and FF have both; 00 00 00
+-- 03 has the two bits in another octet
 abbrev pub ConstantLimits : Type 0
 ConstantLimits =
     (map constantGood (0 ∷ 1 * 2 ^ 24 ∷ 2 * 2 ^ 24 ∷ 252 * 2 ^ 24 ∷ 3 ∷ []) ≡ false ∷ false ∷ false ∷ false ∷ false ∷ [])
     × (map constantGood (3 * 2 ^ 24 ∷ 7 * 2 ^ 24 ∷ 255 * 2 ^ 24 ∷ []) ≡ true ∷ true ∷ true ∷ [])
 
--- the first octet alone decides, whatever the other three are; in figures 03 01 02 04, FB FF FF FF and 02 03 07 FF
+-- the first octet alone decides whether a constant field is good, whatever the other three octets; in figures 03 01 02
+-- 04, FB FF FF FF and 02 03 07 FF
 abbrev pub ConstantByFirst : Type 0
 ConstantByFirst =
     ((first rest : ℕ) → rest < 2 ^ 24 → constantGood (first * 2 ^ 24 + rest) ≡ eqb (first % 4) 3)

@@ -25,7 +25,7 @@ endTag = 9
 abbrev pub edition : ℕ
 edition = 1
 
--- an image: the head, the accounts, the links, the end
+-- the octets of an image: the head, the accounts, the links, the end
 unfoldable pub imageOf : Config → List ℕ
 imageOf g =
     fieldOf headTag (edition ∷ octetsOf 4 (g .constant))
@@ -33,7 +33,7 @@ imageOf g =
     ++ joined (λ j. fieldOf linkTag (rowOctets linkOctets (linkTable (g .links)) j)) (g .linkCount)
     ++ fieldOf endTag []
 
--- ---- sizes that follow: the head's data; each field
+-- ---- sizes that follow from the tags' data: the head's data; each whole field
 abbrev pub headOctets : ℕ
 headOctets = 5
 
@@ -46,7 +46,8 @@ accountSize = tagAndLength + accountOctets
 abbrev pub linkSize : ℕ
 linkSize = tagAndLength + linkOctets
 
--- the offset of the field after n accounts and m links, and of its data; that is also the length of an image that ends with it
+-- the offset of the field after n accounts and m links; the offset of that field's data, which is also the length of an
+-- image whose end is that field
 unfoldable pub fieldOffset : ℕ → ℕ → ℕ
 fieldOffset n m = headSize + accountSize * n + linkSize * m
 
@@ -66,11 +67,12 @@ maxLinks = 256
 abbrev pub longestImage : ℕ
 longestImage = imageLength maxAccounts maxLinks
 
--- the octets that settle what an image of any length is answered: up to the end of a link that is one too many
+-- the number of octets that settle what an image of any length is answered: up to the end of a link that is one too
+-- many
 abbrev pub imagePrefix : ℕ
 imagePrefix = fieldOffset maxAccounts maxLinks + linkSize
 
--- ---- the head's data: the edition, then the constant field, whose first octet has its two low bits set
+-- ---- the head's data: the edition, then the constant field, whose first octet has the two low bits set
 abbrev pub editionOffset : ℕ
 editionOffset = tagAndLength
 

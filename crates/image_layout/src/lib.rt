@@ -15,7 +15,7 @@ pub const END_TAG: u8 = 9;
 
 pub const EDITION: u8 = 1;
 
-// Octets of the head's data, and of whole fields.
+// Octets of the head's data, and of each whole field.
 pub const HEAD_OCTETS: usize = 5;
 
 pub const HEAD_SIZE: usize = fields::TAG_AND_LENGTH + HEAD_OCTETS;
@@ -24,22 +24,22 @@ pub const ACCOUNT_SIZE: usize = fields::TAG_AND_LENGTH + tables::ACCOUNT_OCTETS;
 
 pub const LINK_SIZE: usize = fields::TAG_AND_LENGTH + tables::LINK_OCTETS;
 
-// The limits.
+// The largest counts of accounts and of links.
 pub const MAX_ACCOUNTS: u16 = 64;
 
 pub const MAX_LINKS: u16 = 256;
 
-// The octets of an image that settle what it is answered, however long it is.
+// The number of octets that settle what an image is answered, however long the image is.
 pub const IMAGE_PREFIX: usize = HEAD_SIZE
     + ACCOUNT_SIZE * MAX_ACCOUNTS as usize
     + LINK_SIZE * (MAX_LINKS as usize + 1);
 
-// The octet of the head's edition, and the first of its constant field.
+// The offset of the head's edition, and that of the constant field.
 pub const EDITION_OFFSET: usize = fields::TAG_AND_LENGTH;
 
 pub const CONSTANT_OFFSET: usize = EDITION_OFFSET + 1;
 
-// The prefix as a value: it is the figure that the definitions give.
+// The prefix as a value, equal to the figure that the definitions give.
 pub fn image_prefix() -> usize
     ensures { λ r. ⌜ r ≡ imagePrefix ⌝ }
 {
@@ -53,7 +53,7 @@ pub fn field_offset(accounts: u16, links: u16) -> usize
     HEAD_SIZE + ACCOUNT_SIZE * accounts as usize + LINK_SIZE * links as usize
 }
 
-// The offset of that field's data.
+// The offset of the data of the field after so many accounts and links.
 pub fn data_offset(accounts: u16, links: u16) -> usize
     ensures { λ r. ⌜ r ≡ dataOffset accounts links ⌝ }
 {
@@ -63,7 +63,7 @@ pub fn data_offset(accounts: u16, links: u16) -> usize
         + fields::TAG_AND_LENGTH
 }
 
-// Where the data of the accounts stand.
+// The spacing of the accounts' data in an image.
 pub fn account_fields() -> Spacing
     ensures { λ r. ⌜ r ≡ spacing (dataOffset 0 0) accountSize ⌝ }
 {
@@ -73,7 +73,7 @@ pub fn account_fields() -> Spacing
     }
 }
 
-// Where the data of the links after so many accounts stand.
+// The spacing of the links' data in an image with so many accounts.
 pub fn link_fields(accounts: u16) -> Spacing
     ensures { λ r. ⌜ r ≡ spacing (dataOffset accounts 0) linkSize ⌝ }
 {

@@ -79,7 +79,7 @@ drop-put d xs k e =
     (λ h. ap (drop k) (put-fits d 0 xs (leb-true _ _ h)) ∙ drop-at xs (drop (0 + length xs) d) k e ∙ ap (λ (i : ℕ). drop i d) p)
     (λ h. ap (drop k) (put-no-room d 0 xs (leb-false _ _ h)))
 
--- filled runs are as they were after the rows named
+-- filled runs are unchanged after the rows that the image names
 abbrev Beyond : ℕ → ℕ → Runs → Runs → Type 0
 Beyond n m a r =
     (drop (accountOctets * n) (a .accounts) ≡ drop (accountOctets * n) (r .accounts))

@@ -1,4 +1,4 @@
--- The tables of a history's start: they hold the image's rows, and code 10 fits none. Assumes nothing.
+-- The tables of a history's start: they hold the image's rows, and code 10 fits no row. Assumes nothing.
 use Prim.Native.Nat.{ℕ, zero, suc, _+_, _-_, _*_, _≤_, _<_, min}
 use mathlib.Core.Bool.{true, false, false≢true}
 use mathlib.Core.List.{List, [], _∷_}
@@ -29,7 +29,7 @@ use Rattle.image_load.proofs.Loading.{runsHeld, by-load, length-account
 use Rattle.image_load.proofs.Claims.{long-enough-exactly}
 use Rattle.image_read.proofs.Accepted.{Accepted, accepted, counted-account, counted-link, good-account, good-link, some-accounts, some-links}
 
--- what the test of the runs' lengths says, of lengths alone
+-- what the test of the runs' lengths says of these lengths
 module _ (n m accounts credits lasts links : ℕ) where
   pub record Long : Type 0 where
     pub accounts-long : accountOctets * n ≤ accounts
@@ -51,23 +51,23 @@ load-accepts s r z t =
     (λ _ _. refl)
     (λ _ f. absurd (false≢true (sym f ∙ t)))
 
--- ---- a run that begins with another: one into which that was written
+-- ---- a run that begins with another run: one into which that run was written
 pub begins-put : (d xs : List ℕ) → length xs ≤ length d → Begins xs (put d 0 xs)
 begins-put d xs h = ap (take (length xs)) (put-fits d 0 xs (omega arith)) ∙ take-append-seam xs (drop (0 + length xs) d)
 
 module _ (xs ys : List ℕ) (e : Begins xs ys) where
-  -- is at least as long
+  -- a run is at least as long as the run that it begins with
   pub begins-length : length xs ≤ length ys
   begins-length =
       let m : min (length xs) (length ys) ≡ length xs = sym (length-take (length xs) ys) ∙ ap length e in
       let h : min (length xs) (length ys) ≤ length ys = min-le-right (length xs) (length ys) in
       omega arith
 
-  -- and has its octets
+  -- a run has the octets of the run that it begins with
   pub begins-at : (k : ℕ) → k < length xs → getD ys k 0 ≡ getD xs k 0
   begins-at k l = sym (getD-take (length xs) ys k 0 l) ∙ ap (λ (zs : List ℕ). getD zs k 0) e
 
--- rows of w octets at a run's beginning
+-- rows of w octets at the beginning of a run
 module _ (f : ℕ → List ℕ) (w : ℕ) (each : (i : ℕ) → length (f i) ≡ w) (n : ℕ) (d : List ℕ) (e : Begins (joined f n) d) where
   pub rows-length : w * n ≤ length d
   rows-length =
@@ -75,7 +75,7 @@ module _ (f : ℕ → List ℕ) (w : ℕ) (each : (i : ℕ) → length (f i) ≡
       let h : length (joined f n) ≤ length d = begins-length (joined f n) d e in
       omega arith
 
-  -- each stands at its offset
+  -- each row stands at its offset
   pub rows-at : (i : ℕ) → i < n → octetsAt w d (w * i) ≡ f i
   rows-at i h =
       let l : length (joined f n) ≡ w * n = length-joined f w each n in
@@ -83,7 +83,7 @@ module _ (f : ℕ → List ℕ) (w : ℕ) (each : (i : ℕ) → length (f i) ≡
       part-same w d (joined f n) (w * i) (w * i) (λ k c. begins-at (joined f n) d e (w * i + k) (omega arith))
       ∙ joined-at f w each n i h
 
--- one element each
+-- rows of one element at the beginning of a run
 module _ (x : ℕ → ℕ) (n : ℕ) (d : List ℕ) (e : Begins (joined (λ i. x i ∷ []) n) d) where
   pub ones-at : (i : ℕ) → i < n → getD d i 0 ≡ x i
   ones-at i h =
@@ -159,7 +159,7 @@ fresh-holds s r f =
       links = link-held s n m (r .links) (f .links);
     }
 
--- ---- and are sound
+-- ---- fresh tables are sound
 
 -- both halves of a good link
 module _ (a l : Rows) (n j : ℕ) (e : linkGood a l n j ≡ true) where
@@ -201,7 +201,7 @@ module _ (s : List ℕ) (r : Runs) (f : Fresh s r) where
   abbrev m : ℕ
   m = readImage s .settings .links
 
-  -- what reading answered, and the rows held
+  -- what reading answered, and the rows that the tables hold
   read : Accepted s (readImage s)
   read = accepted s (f .accepted)
 

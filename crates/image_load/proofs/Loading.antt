@@ -44,7 +44,7 @@ module _ (s : List ℕ) (accounts credits lasts links : ℕ) (q : ImageAnswer) (
     unfolding loadAnswer
     load-short t w u = u ∙ simp (eq-eqb _ _ (sym (ap (λ (x : ImageAnswer). x .code) e) ∙ z), ← held, t)
 
--- by cases of what loading answers
+-- case analysis of what loading answers
 pub by-loading : (s : List ℕ) (accounts credits lasts links : ℕ) (P : ImageAnswer → Type 0)
     → ((readImage s .code ≡ 0 → ⊥) → P (readImage s))
     → (readImage s .code ≡ 0 → runsHold (readImage s .settings .accounts) (readImage s .settings .links) accounts credits lasts links ≡ true → P (readImage s))
@@ -70,7 +70,7 @@ module _ (s : List ℕ) (accounts credits lasts links : ℕ) (q : ImageAnswer) (
   pub few-links-loaded : q .settings .links ≤ maxLinks
   few-links-loaded = rw e (few-loaded s accounts credits lasts links .1)
 
--- ---- a refusal has no counts, and what is accepted has good accounts
+-- ---- a refusal has counts of 0, and an accepted image has good accounts
 module _ (s : List ℕ) (r : Runs) (q : ImageAnswer) (e : q ≡ answerFor s r) where
   by-answer : (P : ImageAnswer → Type 0)
       → ((readImage s .code ≡ 0 → ⊥) → P (readImage s)) → (readImage s .code ≡ 0 → P (readImage s)) → P (imageRefused 26 (length s)) → P q
@@ -90,7 +90,7 @@ module _ (s : List ℕ) (r : Runs) (q : ImageAnswer) (e : q ≡ answerFor s r) w
       (λ z w i l. let k = accepted s z .accounts-are in good-account s i (counted-account s i (omega arith)))
       (λ z. absurd (omega arith))
 
--- ---- what loading leaves: nothing where it refuses, else the rows that the image names
+-- ---- what loading leaves: the runs unchanged where loading refuses, else filled with the rows that the image names
 module _ (s : List ℕ) (r : Runs) (q : ImageAnswer) (e : q ≡ answerFor s r) (a c t l : List ℕ)
     (p1 : a ≡ put (r .accounts) 0 (accountRows s (q .settings .accounts)))
     (p2 : c ≡ put (r .credits) 0 (joined (methodCapacity s) (q .settings .accounts)))
@@ -125,7 +125,7 @@ module _ (s : List ℕ) (r : Runs) (q : ImageAnswer) (e : q ≡ answerFor s r) (
 abbrev pub runsHeld : List ℕ → Runs → Bool
 runsHeld s r = longEnough (readImage s .settings .accounts) (readImage s .settings .links) r
 
--- by cases of what loading answers and leaves
+-- case analysis of what loading answers and leaves
 pub by-load : (s : List ℕ) (r : Runs) (P : Loading → Type 0)
     → ((readImage s .code ≡ 0 → ⊥) → P (loadingOf (readImage s) r))
     → (readImage s .code ≡ 0 → runsHeld s r ≡ true → P (loadingOf (readImage s) (filled s (readImage s .settings .accounts) (readImage s .settings .links) r)))

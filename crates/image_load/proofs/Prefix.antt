@@ -1,5 +1,5 @@
--- An image of any length is loaded by its first octets: an accepted image is no longer than the prefix, and what is refused leaves
--- the runs. Assumes nothing.
+-- An image of any length is loaded by its first octets: an accepted image is no longer than the prefix, and a refused
+-- image leaves the runs unchanged. Assumes nothing.
 use Prim.Native.Nat.{ℕ, _≤_}
 use mathlib.Core.List.{List}
 use mathlib.Core.Path.{_≡_, refl, sym, ap, _∙_}

@@ -25,14 +25,16 @@ RefusedLoadKeeps =
     × (loading s r .answer .settings .accounts ≡ 0)
     × (loading s r .answer .settings .links ≡ 0)
 
--- runs are long enough exactly where each has a row, a credit, a last time for every account and a row for every link
+-- runs are long enough exactly where there is a row, a credit and a last time for every account, and a row for every
+-- link
 abbrev pub LongEnoughExactly : Type 0
 LongEnoughExactly =
     (n m : ℕ) (r : Runs)
     → (longEnough n m r ≡ true)
     ↔ ((6 * n ≤ length (r .accounts)) × (n ≤ length (r .credits)) × (n ≤ length (r .lasts)) × (13 * m ≤ length (r .links)))
 
--- what reading refuses, loading refuses alike; what reading accepts, it refuses as 26 where a run is too short
+-- what reading refuses, loading refuses with the same answer; what reading accepts, loading refuses as 26 where a run
+-- is too short
 abbrev pub LoadRefuses : Type 0
 LoadRefuses =
     (s : List ℕ) (r : Runs)
@@ -41,7 +43,7 @@ LoadRefuses =
     → longEnough (readImage s .settings .accounts) (readImage s .settings .links) r ≡ false
     → loading s r .answer ≡ imageRefused 26 (length s))
 
--- the offset answered never lies past the image; success and 26 answer its length
+-- the offset answered never lies past the image; success and 26 answer the image's length
 abbrev pub OffsetsInside : Type 0
 OffsetsInside =
     (s : List ℕ) (r : Runs)

@@ -25,21 +25,21 @@ pub record Fresh (s : List ℕ) (r : Runs) : Type 0 where
   pub lasts : Begins (replicate (readImage s .settings .accounts) 0) (r .lasts)
   pub links : Begins (linkRows s (readImage s .settings .accounts) (readImage s .settings .links)) (r .links)
 
--- loading that answers 0 answers what reading does, constant field and counts, and leaves fresh tables; nothing is asked of the
--- runs
+-- loading that answers 0 answers what reading answers, constant field and counts, and leaves fresh tables; nothing is
+-- asked of the runs
 abbrev pub LoadFresh : Type 0
 LoadFresh =
     (s : List ℕ) (r : Runs) → loading s r .answer .code ≡ 0
     → (loading s r .answer ≡ readImage s) × Fresh s (loading s r .runs)
 
--- and it answers 0 for every image that reads as 0 and runs that are long enough
+-- loading answers 0 for every image that reads as 0 and runs that are long enough
 abbrev pub LoadAccepts : Type 0
 LoadAccepts =
     (s : List ℕ) (r : Runs) → readImage s .code ≡ 0
     → longEnough (readImage s .settings .accounts) (readImage s .settings .links) r ≡ true
     → loading s r .answer ≡ readImage s
 
--- fresh tables hold the image's rows, and are long enough for them
+-- fresh tables hold the image's rows, and are long enough for these rows
 pub record HoldsImage (s : List ℕ) (r : Runs) (n m : ℕ) : Type 0 where
   pub long : longEnough n m r ≡ true
   pub accounts : (i : ℕ) → i < n → accountIn (accountTable (r .accounts)) i ≡ accountIn (accountFields s) i
@@ -48,8 +48,8 @@ pub record HoldsImage (s : List ℕ) (r : Runs) (n m : ℕ) : Type 0 where
 abbrev pub FreshHolds : Type 0
 FreshHolds = (s : List ℕ) (r : Runs) → Fresh s r → HoldsImage s r (readImage s .settings .accounts) (readImage s .settings .links)
 
--- tables of n accounts and m links in which code 10 fits no row: counts within the limits, runs that are long enough, values in
--- order, credits full, last times 0; and each number stands once
+-- tables of n accounts and m links in which code 10 fits no row: counts within the limits, runs that are long enough,
+-- values in order, credits full, last times 0; and each link number stands once
 pub record SoundTables (r : Runs) (n m : ℕ) : Type 0 where
   pub long : longEnough n m r ≡ true
   pub some-accounts : (1 ≤ n) × (n ≤ maxAccounts)

@@ -12,7 +12,7 @@ use Rattle.image_read.specs.Read.{imageRefused, readImage}
 use Rattle.image_read.specs.declared.ImageAnswer.{ImageAnswer}
 use Rattle.image_fill.specs.Filling.{Runs, filled}
 
--- an answer, and the runs beside it
+-- an answer of loading, with the runs after loading
 pub record Loading : Type 0 where
   pub answer : ImageAnswer
   pub runs : Runs
@@ -20,7 +20,7 @@ pub record Loading : Type 0 where
 abbrev pub loadingOf : ImageAnswer → Runs → Loading
 loadingOf q r = record { answer = q; runs = r }
 
--- runs of these lengths are long enough for n accounts and m links
+-- whether runs of these lengths are long enough for n accounts and m links
 unfoldable pub runsHold : ℕ → ℕ → ℕ → ℕ → ℕ → ℕ → Bool
 runsHold n m accounts credits lasts links =
     leb (accountOctets * n) accounts && leb n credits && leb n lasts && leb (linkOctets * m) links
@@ -28,7 +28,7 @@ runsHold n m accounts credits lasts links =
 abbrev pub longEnough : ℕ → ℕ → Runs → Bool
 longEnough n m r = runsHold n m (length (r .accounts)) (length (r .credits)) (length (r .lasts)) (length (r .links))
 
--- the answer, by the lengths of the runs: 26 only when nothing else is refused
+-- the answer of loading, by the lengths of the runs: 26 only when nothing else is refused
 unfoldable pub loadAnswer : List ℕ → ℕ → ℕ → ℕ → ℕ → ImageAnswer
 loadAnswer s accounts credits lasts links =
     if not (eqb (readImage s .code) Codes.success) then readImage s

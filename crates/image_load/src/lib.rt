@@ -4,7 +4,7 @@ ghost use Rattle.image_load.specs.Loading.{runsHold, loadAnswer, loading
 ghost use Rattle.image_fill.specs.Filling.{runsOf};
 use image_read::ImageAnswer;
 
-// Whether runs of these lengths hold so many accounts and links.
+// Whether runs of these lengths hold n accounts and m links.
 fn runs_hold(n: u16, m: u16, accounts: usize, credits: usize, lasts: usize, links: usize) -> bool
     ensures { λ r. ⌜ r ≡ runsHold n m accounts credits lasts links ⌝ }
 {
@@ -20,7 +20,7 @@ fn runs_hold(n: u16, m: u16, accounts: usize, credits: usize, lasts: usize, link
     tables::LINK_OCTETS * m as usize <= links
 }
 
-// What loading answers, by the image and the lengths of the runs.
+// What loading answers, from the image and the lengths of the runs.
 fn load_answer(
     image: &[u8],
     accounts: usize,
@@ -47,8 +47,8 @@ fn load_answer(
     image_read::refused(codes::NO_ROOM, image.len())
 }
 
-// Loads an image into lent tables: rows of accounts, credits, last times, rows of links. After any code but 0 all of them
-// are as they were; after 0 the rows that the image doesn't name are.
+// Loads an image into lent tables: rows of accounts, credits, last times, rows of links. After any code but 0 the
+// tables are unchanged; after 0 the rows that the image doesn't name are.
 pub fn load(
     image: &[u8],
     accounts: &mut [u8],

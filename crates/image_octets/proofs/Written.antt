@@ -31,7 +31,7 @@ field-written d e f at tag size bytes l h p q =
     ∙ put-after d at (tag ∷ octetsOf 2 size) bytes (at + tagAndLength) (omega arith) (omega arith)
     ∙ ap (λ (n : ℕ). put d at (tag ∷ octetsOf 2 n ++ bytes)) (sym l)
 
--- the head: its data are the edition and the constant field
+-- the head, whose data are the edition and the constant field
 pub length-head : (c : ℕ) → length (edition ∷ octetsOf 4 c) ≡ headOctets
 length-head c = let o = length-octets 4 c in omega arith
 
@@ -100,11 +100,11 @@ image-written g d e1 e2 e3 e4 p1 p2 p3 h q1 q2 q3 v1 v2 v3 v4 =
 pub length-sized : (tag size : ℕ) (s : List ℕ) (at : ℕ) → length (fieldOf tag (octetsAt size s at)) ≡ tagAndLength + size
 length-sized tag size s at = length-field tag (octetsAt size s at) ∙ ap (λ (n : ℕ). tagAndLength + n) (length-part size s at)
 
--- the test of room for a length that is known
+-- the test of room, for a length that is known
 pub room-of : (len x y : ℕ) (r : Bool) → x ≡ y → r ≡ leb (0 + x) len → not r ≡ false → y ≤ len
 room-of len x y r e v h = rw e at (has-room-first len x r v h)
 
--- the head's room is still there once its tag and length are written
+-- the room for the head is still there once the head's tag and length are written
 pub head-inside : (d e : List ℕ) (tag : ℕ) (xs : List ℕ) → headSize ≤ length d → e ≡ put (set d 0 tag) 1 xs → 3 < length e
 head-inside d e tag xs h v =
     let l : length e ≡ length d = length-written (set d 0 tag) 1 xs e v ∙ length-set d 0 tag in

@@ -8,7 +8,7 @@ ghost use Rattle.tables.specs.Rows.{configOf};
 ghost use Rattle.fields.specs.Fields.{fieldOf};
 ghost use Rattle.image_layout.specs.Layout.{headTag, edition, imageOf};
 
-// The head.
+// Writes the head.
 fn put_head(room: &mut [u8], constant: u32)
     ensures { λ r. ⌜ now (room .exit) ≡ put (now (room .entry)) 0 (fieldOf headTag (edition ∷ octetsOf 4 constant)) ⌝ }
 {
@@ -21,7 +21,7 @@ fn put_head(room: &mut [u8], constant: u32)
     octets_write::put_u32(room, image_layout::CONSTANT_OFFSET, constant);
 }
 
-// One field at an offset: its tag, its length, and `size` octets of the rows from `from` on.
+// Writes one field at an offset: the tag, the length, and `size` octets of the rows from `from` on.
 fn put_field(room: &mut [u8], at: usize, tag: u8, rows: &[u8], from: usize, size: u8)
     ensures { λ r. ⌜ now (room .exit) ≡ put (now (room .entry)) at (fieldOf tag (octetsAt size (now (rows .entry)) from)) ⌝ }
 {
@@ -33,7 +33,7 @@ fn put_field(room: &mut [u8], at: usize, tag: u8, rows: &[u8], from: usize, size
     octets_write::copy(rows, from, size as usize, room, at + fields::TAG_AND_LENGTH);
 }
 
-// The fields of the first n rows of `size` octets, from an offset on.
+// Writes the fields of the first n rows of `size` octets, from an offset on.
 fn put_fields(room: &mut [u8], at: usize, tag: u8, rows: &[u8], size: u8, n: u16)
     ensures { λ r. ⌜ now (room .exit)
         ≡ put (now (room .entry)) at (joined (λ i. fieldOf tag (rowOctets size (tableOf size (now (rows .entry))) i)) n) ⌝ }
@@ -57,7 +57,7 @@ fn put_fields(room: &mut [u8], at: usize, tag: u8, rows: &[u8], size: u8, n: u16
     }
 }
 
-// The whole image. The end has no data, so of the rows that are lent for it nothing is read.
+// Writes the whole image. The end has no data, so nothing is read of the rows that are lent for the end.
 pub fn put_image(constant: u32, accounts: &[u8], n: u16, links: &[u8], m: u16, room: &mut [u8])
     ensures { λ r. ⌜ now (room .exit) ≡ put (now (room .entry)) 0 (imageOf (configOf constant (now (accounts .entry)) n (now (links .entry)) m)) ⌝ }
 {

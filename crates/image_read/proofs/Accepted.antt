@@ -1,4 +1,4 @@
--- What an accepted image is like, field by field, and that a refusal answers no counts. Assumes nothing.
+-- What an accepted image is like, field by field, and that a refusal answers counts of 0. Assumes nothing.
 use Prim.Native.Nat.{ℕ, _+_, _≤_, _<_}
 use mathlib.Core.Bool.{Bool, true, false, _&&_, false≢true}
 use mathlib.Core.List.{List}
@@ -86,7 +86,7 @@ module _ (s : List ℕ) (at : ℕ) (order : Bool) (size : ℕ) (full good : Bool
         sound = passed-sound;
       }
 
--- and the other way round
+-- a field with all these properties passes every check
 pub passes : (s : List ℕ) (at : ℕ) (order : Bool) (size : ℕ) (full good : Bool) → Passed s at order size full good
     → fieldCode (fieldAt s at) order size full good ≡ 0
 unfolding fieldCode
@@ -102,7 +102,7 @@ passes s at order size full good p =
       p .sound,
     )
 
--- the head, and a later field
+-- the checks that the head passes, and a later field
 pub head-passes : (s : List ℕ) → headCode s ≡ 0 → Passed s 0 (eqb (getD s 0 0) headTag) headOctets false (headGood s)
 unfolding headCode
 head-passes s z = passed s 0 (eqb (getD s 0 0) headTag) headOctets false (headGood s) z
@@ -141,7 +141,7 @@ module _ (s : List ℕ) (n j : ℕ) (e : goodField s linkTag n j ≡ true) where
   unfolding valuesGood
   good-link = good-passes s linkTag n j e .sound
 
-  -- no link before the first account
+  -- there is no link before the first account
   pub link-first : n ≡ 0 → ⊥
   unfolding inOrder
   link-first z = false≢true (rw z at (good-passes s linkTag n j e .ordered))
@@ -195,7 +195,7 @@ refused-zeros s =
     (λ e l at h f. (refl, refl, refl))
     (λ e l f. absurd (f refl)))
 
--- ---- what ends the reading is the end
+-- ---- the field that ends the reading of an accepted image is the end field
 ltb-of : {a b : ℕ} → leb a b ≡ false → b < a
 ltb-of {a} {b} e = leb-false a b e
 

@@ -21,12 +21,12 @@ use Rattle.image_read.proofs.Accepted.{Accepted, accepted, head-passes,
 use Rattle.image_read.proofs.Reading.{few-accounts, few-links, few-read, by-end, by-reading}
 
 -- ---- codes
--- what holds of both answers holds of the choice
+-- a property of both answers is one of the choice between them
 by-choice : {A : Type 0} (P : A → Type 0) (b : Bool) (x y : A) → P x → P y → P (if b then x else y)
 by-choice P true x y f g = f
 by-choice P false x y f g = g
 
--- of a field
+-- a property of every code that a field can get
 module _ (P : ℕ → Type 0) (p0 : P 0) (p20 : P 20) (p21 : P 21) (p22 : P 22) (p23 : P 23) (p24 : P 24) where
   by-field : (f : Field) (order : Bool) (size : ℕ) (full good : Bool) → P (fieldCode f order size full good)
   unfolding fieldCode
@@ -47,7 +47,7 @@ module _ (P : ℕ → Type 0) (p0 : P 0) (p20 : P 20) (p21 : P 21) (p22 : P 22) 
   by-next s n m =
       by-field (fieldAt s (fieldOffset n m)) (inOrder (tagAt s n m) n m) (dataOctets (tagAt s n m)) (isFull (tagAt s n m) n m) (valuesGood s (tagAt s n m) n m)
 
-  -- of an image
+  -- a property of every code that an image can get
   pub by-code : P 25 → (s : List ℕ) → P (readImage s .code)
   by-code p25 s =
       by-reading s (λ q. P (q .code))
@@ -57,7 +57,7 @@ module _ (P : ℕ → Type 0) (p0 : P 0) (p20 : P 20) (p21 : P 21) (p22 : P 22) 
       (λ _ _ _ _. p25)
       (λ _ _. p0))
 
--- a number that a list has, by computing
+-- whether a list has a number, by computing
 abbrev pub has : ℕ → List ℕ → Bool
 has x [] = false
 has x (y ∷ l) = eqb x y || has x l
@@ -69,7 +69,7 @@ listed x (y ∷ l) e =
     (λ q. List·Memᴰ·head (eqb-true _ _ q))
     (λ q. List·Memᴰ·tail (listed x l (rw q at e)))
 
--- a list that has every code of reading
+-- a list that has every code that reading can answer has the code of any image
 pub code-listed : (l : List ℕ)
     → has 0 l ≡ true → has 20 l ≡ true → has 21 l ≡ true → has 22 l ≡ true → has 23 l ≡ true → has 24 l ≡ true → has 25 l ≡ true
     → (s : List ℕ) → List·Memᴰ (readImage s .code) l
@@ -104,7 +104,7 @@ accepted-ends s z =
       longest s (a .length-is) (few-read s .0) (few-read s .1),
     )
 
--- ---- offsets: the place of the next field
+-- ---- offsets: where the next field stands
 offset-head : fieldOffset 0 0 ≡ headSize
 unfolding fieldOffset
 offset-head = refl
@@ -127,7 +127,7 @@ module _ (s : List ℕ) (z : headCode s ≡ 0) where
       let p = offset-account n in
       omega arith
 
-  -- and so does the field after the links
+  -- the field after the links that were counted starts inside the image, or at its end
   links-inside : (n m : ℕ) → n ≤ goodAccounts s → m ≤ goodLinks s n → fieldOffset n m ≤ length s
   unfolding dataOctets
   links-inside n zero k h = accounts-inside n k
@@ -148,7 +148,7 @@ offset-inside s =
     (λ _ _ at h. h)
     (λ _ _. omega arith))
 
--- ---- field by field: one step of the walk
+-- ---- reading field by field: one step of the walk
 module _ (k : ℕ) (s : List ℕ) (n m : ℕ) where
   walk-account : goodField s accountTag n m ≡ true → walked (suc k) s n m ≡ walked k s (suc n) m
   unfolding walked
@@ -162,11 +162,12 @@ module _ (k : ℕ) (s : List ℕ) (n m : ℕ) where
   unfolding walked
   walk-end f g = simp (f, g)
 
--- a test that is never true
+-- a test that is not true is false
 not-good : (b : Bool) → (b ≡ true → ⊥) → b ≡ false
 not-good b h = split b (λ e. absurd (h e)) (λ e. e)
 
--- an account is good only before the links, and while there is room for one; a link only after an account, and while there is room
+-- an account is good only before the links, and while the limit leaves room for one; a link only after an account, and
+-- while the limit leaves room for one
 module _ (s : List ℕ) (n m : ℕ) where
   account-room : goodField s accountTag n m ≡ true → n < maxAccounts
   unfolding isFull
@@ -183,7 +184,7 @@ module _ (s : List ℕ) (n m : ℕ) where
       (λ q. eqb-true _ _ q)
       (λ q. absurd (false≢true (rw (ne-eqb _ _ d, q) at (good-passes s accountTag n m g .ordered))))
 
--- what was counted ends where the test fails
+-- counting ends where the test fails
 accounts-end : (s : List ℕ) → goodField s accountTag (goodAccounts s) 0 ≡ true → ⊥
 unfolding goodAccounts
 accounts-end s g = false≢true (sym (leading-fails (λ i. goodField s accountTag i 0) maxAccounts (account-room s (goodAccounts s) 0 g)) ∙ g)

@@ -1,4 +1,5 @@
--- Octets that are written out as an image, with good values, read as accepted: the way back from Accepted. Assumes nothing.
+-- Octets that are written out as an image, with good values, read as accepted: the converse of Accepted. Assumes
+-- nothing.
 use Prim.Native.Nat.{ℕ, _+_, _≤_, _<_}
 use mathlib.Core.Bool.{Bool, true, false, not, _&&_, false≢true}
 use mathlib.Core.List.{List}
@@ -40,7 +41,8 @@ head-code-by s l t n g =
     passes s 0 (eqb (getD s 0 0) headTag) headOctets false (headGood s)
     (record { headed = omega arith; ordered = eq-eqb _ _ t; sized = n; whole = omega arith; few = refl; sound = g })
 
--- ---- a later field, by its tag: where it stands whole, in order and not one too many, it is good exactly where its values are
+-- ---- a later field, by its tag: a field that stands whole, in order and not one too many is good exactly where its
+-- values are
 module _ (s : List ℕ) (tag n m : ℕ) where
   field-passes : standsAt s (fieldOffset n m) tag (dataOctets tag) ≡ true → inOrder tag n m ≡ true → isFull tag n m ≡ false
       → valuesGood s tag n m ≡ true → goodField s tag n m ≡ true
@@ -116,7 +118,7 @@ module _ (s : List ℕ) (n j at : ℕ) (p : at ≡ fieldOffset n j) (b : Bool) (
   unfolding dataOctets isFull valuesGood
   link-valued h o l = field-valued s linkTag n j at p b e h (link-ordered n j o) (lt-leb _ _ l)
 
--- no link before the first account
+-- there is no link before the first account
 pub links-none : (s : List ℕ) (n : ℕ) → n ≡ 0 → 0 ≡ goodLinks s n
 unfolding goodLinks
 links-none s n z =

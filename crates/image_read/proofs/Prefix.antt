@@ -1,5 +1,5 @@
--- An image of any length is answered by its first octets: nothing past imagePrefix is read, and no length past it is compared.
--- Assumes nothing.
+-- An image of any length is answered by its first octets: nothing past imagePrefix is read, and no length past
+-- imagePrefix is compared. Assumes nothing.
 use Prim.Native.Nat.{ℕ, suc, _+_, _-_, _*_, _≤_, _<_}
 use mathlib.Core.Bool.{Bool, false}
 use mathlib.Core.List.{List}
@@ -38,7 +38,7 @@ small-data tag =
 abbrev prefix : ℕ
 prefix = headSize + accountSize * maxAccounts + linkSize * maxLinks + linkSize
 
--- ---- two runs with the same first octets, and lengths that are alike up to there
+-- ---- two runs with the same first octets, and with lengths that are alike up to the prefix
 module _ (s t : List ℕ) (same : (i : ℕ) → i < prefix → getD s i 0 ≡ getD t i 0) (long : (x : ℕ) → x ≤ prefix → leb x (length s) ≡ leb x (length t)) where
   number-same : (w at : ℕ) → at + w ≤ prefix → numberAt w s at ≡ numberAt w t at
   number-same w at h = number-shift w s t at at (λ k l. same (at + k) (omega arith))
@@ -64,7 +64,7 @@ module _ (s t : List ℕ) (same : (i : ℕ) → i < prefix → getD s i 0 ≡ ge
       code-same 0 (eqb (getD s 0 0) headTag) headOctets false (headGood s) (headGood t) (omega arith) head-good-same
       ∙ ap (λ (x : ℕ). fieldCode (fieldAt t 0) (eqb x headTag) headOctets false (headGood t)) (same 0 (omega arith))
 
-  -- rows of accounts and links, up to one too many
+  -- rows of accounts and links, up to one row too many
   account-same : (i : ℕ) → i ≤ maxAccounts → accountIn (accountFields s) i ≡ accountIn (accountFields t) i
   unfolding fieldOffset
   account-same i h = terms-same s t _ _ (λ k l. same _ (omega arith))
@@ -75,7 +75,7 @@ module _ (s t : List ℕ) (same : (i : ℕ) → i < prefix → getD s i 0 ≡ ge
     link-read-same j h = link-same s t _ _ (λ k l. same _ (omega arith))
 
     module _ (m : ℕ) (few-m : m ≤ maxLinks) where
-      -- the field after n accounts and m links, and how many there are
+      -- the field after n accounts and m links, and the counts of good fields
       offset-low : fieldOffset n m + linkSize ≤ prefix
       unfolding fieldOffset
       offset-low = omega arith
@@ -115,7 +115,7 @@ module _ (s t : List ℕ) (same : (i : ℕ) → i < prefix → getD s i 0 ≡ ge
       leading-same (λ i. goodField s accountTag i 0) (λ i. goodField t accountTag i 0) maxAccounts
       (λ i l. field-same i (omega arith) 0 (omega arith) accountTag)
 
-  -- a run shorter than the prefix is as long as the other
+  -- a run shorter than the prefix is as long as the other run
   lengths-same : length s < prefix → length s ≡ length t
   lengths-same h =
       let a : length s ≤ length t = leb-true _ _ (sym (long (length s) (omega arith)) ∙ le-leb (length s) (length s) (omega arith)) in
@@ -133,7 +133,7 @@ module _ (s t : List ℕ) (same : (i : ℕ) → i < prefix → getD s i 0 ≡ ge
       let h : length s ≤ imageLength n m = ltb-false _ _ l in
       simp (next-same n a m b, lengths-same (omega arith), number-same 4 4 (omega arith)))
 
-  -- they read the same
+  -- both runs read the same
   pub read-same : readImage s ≡ readImage t
   read-same =
       by-reading s (λ q. q ≡ readImage t)

@@ -1,4 +1,4 @@
--- Laws of what reading and loading answer, case by case as the code makes them. Assumes nothing.
+-- Laws of what reading and loading answer, case by case as the code makes the checks. Assumes nothing.
 use Prim.Native.Nat.{ℕ, _≤_, _<_}
 use mathlib.Core.List.{List}
 use mathlib.Core.Path.{_≡_, sym, ap, ap₂, _∙_}
@@ -46,7 +46,7 @@ module _ (s : List ℕ) (code : ℕ) (e : code ≡ headCode s) where
   head-passed z n m q f g v =
       v ∙ ap (readEnd s n) g ∙ ap (λ (k : ℕ). readEnd s k (goodLinks s k)) f ∙ simp (eq-eqb _ _ (sym e ∙ z))
 
--- ---- by cases of what reading answers
+-- ---- case analysis of what reading answers
 module _ (s : List ℕ) (P : ImageAnswer → Type 0) where
   -- surplus octets are refused at some offset inside the image
   pub by-end : (n m : ℕ)
@@ -72,7 +72,7 @@ module _ (s : List ℕ) (P : ImageAnswer → Type 0) where
       (λ e. simp e (g (eqb-true _ _ e)))
       (λ e. simp e (f (eqb-false _ _ e)))
 
--- ---- so are those of an answer
+-- ---- the counts of an answer are within the limits
 abbrev pub Few : ImageAnswer → Type 0
 Few q = (q .settings .accounts ≤ maxAccounts) × (q .settings .links ≤ maxLinks)
 

@@ -20,7 +20,7 @@ use Rattle.image_layout.specs.Layout.{fieldOffset, dataOffset}
 use Rattle.image_layout.proofs.Offsets.{account-offset, link-offset}
 use Rattle.image_field.specs.Checks.{accountFields, linkFields}
 
--- the data of a field that stands are there
+-- the data of a field that stands whole are inside the image
 pub inside : (s : List ℕ) (at tag size : ℕ) (b : Bool) → b ≡ standsAt s at tag size → not b ≡ false → at + (tagAndLength + size) ≤ length s
 inside s at tag size b e h = stands-whole s at tag size (sym e ∙ not-false b h)
 
@@ -37,7 +37,7 @@ pub account-smax : (s : List ℕ) (i at x : ℕ) → at ≡ dataOffset i 0 → x
 unfolding termsAt
 account-smax s i at x e f = f ∙ ap (numberAt 2 s) (e ∙ account-offset i)
 
--- ---- a link: its values, and that its number rises
+-- ---- a link: its values, and whether its number rises
 module _ (s : List ℕ) (n j : ℕ) where
   pub link-in : (at : ℕ) → at ≡ fieldOffset n j → (l : Link)
       → l ≡ linkAt (take (at + tagAndLength + linkOctets - (at + tagAndLength)) (drop (at + tagAndLength) s)) 0 → l ≡ linkIn (linkFields s n) j

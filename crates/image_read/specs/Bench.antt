@@ -1,5 +1,5 @@
--- Image P of the bench sheet (document 01, "Bench sheet"), octet by octet: what it reads as, what its rows say, what it is the
--- image of, and what it is answered with a fault in it. Proved in proofs/Bench.antt.
+-- Image P of the bench sheet (document 01, "Bench sheet"), octet by octet: what image P reads as, what its rows say,
+-- which tables it is the image of, and what it is answered with a fault in it. Proved in proofs/Bench.antt.
 use Prim.Native.Nat.{ℕ}
 use mathlib.Core.List.{List, [], _∷_, _++_, map}
 use mathlib.Core.Path.{_≡_}
@@ -25,7 +25,8 @@ imageP =
     ++ (3 ∷ 0 ∷ 13 ∷ linkP)
     ++ (9 ∷ 0 ∷ 0 ∷ [])
 
--- its constant field is 03 00 00 00; Smax 200, BAG 1,000 us, J 500 us, byte mode; link 7 on port 2 to port 3
+-- the values of image P: constant field 03 00 00 00; Smax 200, BAG 1,000 us, J 500 us, byte mode; link 7 on port 2 to
+-- port 3
 abbrev pub answerP : ImageAnswer
 answerP = record { code = 0; offset = 36; settings = settingsOf 50331648 1 1 }
 
@@ -58,19 +59,19 @@ CaseThirteen =
     map answered ([] ∷ take 33 imageP ∷ (imageP ++ (0 ∷ [])) ∷ (imageP ++ (9 ∷ 0 ∷ [])) ∷ [])
     ≡ (20, 0) ∷ (20, 33) ∷ (25, 36) ∷ (25, 36) ∷ []
 
--- cut after so many octets: 20 at the field that is cut, within its tag and length or within its data
+-- image P cut after so many octets: 20 at the field that is cut, within its tag and length or within its data
 abbrev pub CutImages : Type 0
 CutImages =
     map (λ n. answered (take n imageP)) (2 ∷ 3 ∷ 7 ∷ 8 ∷ 10 ∷ 11 ∷ 16 ∷ 17 ∷ 20 ∷ 32 ∷ 35 ∷ [])
     ≡ (20, 0) ∷ (20, 0) ∷ (20, 0) ∷ (20, 8) ∷ (20, 8) ∷ (20, 8) ∷ (20, 8) ∷ (20, 17) ∷ (20, 17) ∷ (20, 17) ∷ (20, 33) ∷ []
 
--- the link names account 1, and has number 1,500, whose octets would pass for that account's Smax
+-- image P whose link names account 1, and has number 1,500, whose octets would pass for that account's Smax
 abbrev pub unknownAccount : List ℕ
 unknownAccount = set (set (altered 32 1) 20 5) 21 220
 
--- one octet altered. 21: tags 2, 3, 9 and 2 in place of 1, 2, 3 and 9, and an unknown one; 22: each field's length; 23: edition
--- 2, constant field 02.., Smax 63, k 8, J 10,228, mode 4; port 32, mask 0, smallest 63, largest 201, and an account that the image
--- doesn't have
+-- image P with one octet altered. 21: tags 2, 3, 9 and 2 in place of 1, 2, 3 and 9, and an unknown tag; 22: each
+-- field's length; 23: edition 2, constant field 02.., Smax 63, k 8, J 10,228, mode 4; port 32, mask 0, smallest 63,
+-- largest 201, and an account that the image doesn't have
 abbrev pub FaultyImages : Type 0
 FaultyImages =
     (map answered (altered 0 2 ∷ altered 8 3 ∷ altered 17 9 ∷ altered 33 2 ∷ altered 8 4 ∷ [])
@@ -82,8 +83,8 @@ FaultyImages =
     × (map answered (altered 22 32 ∷ altered 26 0 ∷ altered 28 63 ∷ altered 30 201 ∷ unknownAccount ∷ [])
     ≡ (23, 17) ∷ (23, 17) ∷ (23, 17) ∷ (23, 17) ∷ (23, 17) ∷ [])
 
--- two faults at once: of a wrong tag and a wrong length 21; a wrong tag with too few octets left 20; a wrong length and data cut
--- 22; data cut and a bad value 20; a bad account and a bad link, the account
+-- image P with two faults at once: a wrong tag and a wrong length is 21; a wrong tag with too few octets left 20; a
+-- wrong length and data cut 22; data cut and a bad value 20; with a bad account and a bad link the account decides
 abbrev pub TwoFaults : Type 0
 TwoFaults =
     map answered

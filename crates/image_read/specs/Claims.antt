@@ -18,7 +18,8 @@ use Rattle.image_read.specs.declared.ImageAnswer.{ImageAnswer}
 abbrev pub ReadCodes : Type 0
 ReadCodes = (s : List ℕ) → List·Memᴰ (readImage s .code) (0 ∷ 20 ∷ 21 ∷ 22 ∷ 23 ∷ 24 ∷ 25 ∷ [])
 
--- an accepted image ends with its end field; before it stand accounts and links, at least one of each and no more than the limits
+-- an accepted image ends with its end field; before the end field stand accounts and links, at least one of each and no
+-- more than the limits
 abbrev pub AcceptedEnds : Type 0
 AcceptedEnds =
     (s : List ℕ) → readImage s .code ≡ 0
@@ -30,13 +31,14 @@ AcceptedEnds =
     × (readImage s .settings .links ≤ maxLinks)
     × (length s ≤ longestImage)
 
--- a field is good, and passed, exactly where it has the tag and no code fits it
+-- a field is good, and so passed, exactly where it has the tag and no code fits it
 abbrev pub GoodFieldsExactly : Type 0
 GoodFieldsExactly =
     (s : List ℕ) (tag n m : ℕ) → (goodField s tag n m ≡ true) ↔ ((tagAt s n m ≡ tag) × (nextCode s n m ≡ 0))
 
--- the same answer field by field: a good account or link is passed, and the first field that is neither ends the reading. From as
--- many fields on as an image can have, the number k that are looked at never decides; 255 is no code of reading
+-- the answer of reading field by field: a good account or link is passed, and the first field that is neither ends the
+-- reading. From as many fields on as an image can have, the bound k on the fields never decides; 255 is no code of
+-- reading
 unfoldable pub walked : ℕ → List ℕ → ℕ → ℕ → ImageAnswer
 walked zero s n m = imageRefused 255 0
 walked (suc k) s n m =
@@ -51,8 +53,9 @@ ReadFieldByField = (s : List ℕ) (k : ℕ) → maxAccounts + maxLinks < k → h
 abbrev pub PrefixRead : Type 0
 PrefixRead = (s : List ℕ) → readImage (take imagePrefix s) ≡ readImage s
 
--- ---- every answer with its offset, n good accounts and m good links after them standing after the head: the head's code at 0;
--- the code of the field after them at its first octet; 25 at the first octet after the end; success at the image's length
+-- ---- every answer with its offset, with n good accounts after the head and m good links after these: the head's code
+-- at 0; the code of the next field at that field's first octet; 25 at the first octet after the end; success at the
+-- image's length
 pub record Answer (s : List ℕ) (n m : ℕ) : Type 0 where
   pub head : (headCode s ≡ 0 → ⊥) → readImage s ≡ imageRefused (headCode s) 0
   pub field : headCode s ≡ 0 → (nextCode s n m ≡ 0 → ⊥) → readImage s ≡ imageRefused (nextCode s n m) (8 + 9 * n + 16 * m)

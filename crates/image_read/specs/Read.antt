@@ -1,4 +1,5 @@
--- What reading an image answers: the first field that is refused, or what the end says (document 01, "The configuration image").
+-- What reading an image answers: the code of the first field that is refused, or success at the end (document 01, "The
+-- configuration image").
 use Prim.Native.Nat.{ℕ}
 use mathlib.Core.Bool.{Bool, not, _&&_}
 use mathlib.Core.List.{List}
@@ -12,7 +13,8 @@ use Rattle.image_layout.specs.Layout.{accountTag, linkTag, fieldOffset, imageLe
 use Rattle.image_read.specs.declared.ImageAnswer.{ImageAnswer}
 use Rattle.image_field.specs.Checks.{headCode, nextCode, tagAt}
 
--- ---- how many accounts stand after the head, and how many links after them, each of the tag and good
+-- ---- whether a field has a tag and is good; how many good accounts stand after the head, and how many good links
+-- after n accounts
 unfoldable pub goodField : List ℕ → ℕ → ℕ → ℕ → Bool
 goodField s tag n m = eqb (tagAt s n m) tag && eqb (nextCode s n m) Codes.success
 
@@ -22,11 +24,11 @@ goodAccounts s = leading (λ i. goodField s accountTag i 0) maxAccounts
 unfoldable pub goodLinks : List ℕ → ℕ → ℕ
 goodLinks s n = leading (λ j. goodField s linkTag n j) maxLinks
 
--- ---- the answer
+-- ---- the answers of reading: a refusal
 abbrev pub imageRefused : ℕ → ℕ → ImageAnswer
 imageRefused code offset = record { code = code; offset = offset; settings = settingsOf 0 0 0 }
 
--- the field after n accounts and m links ends the reading: it is refused, or it is the end
+-- the answer at the field after n accounts and m links, which ends the reading: the field's code, 25, or success
 unfoldable pub readEnd : List ℕ → ℕ → ℕ → ImageAnswer
 readEnd s n m =
     if not (eqb (nextCode s n m) Codes.success) then imageRefused (nextCode s n m) (fieldOffset n m)

@@ -1,4 +1,4 @@
-// How many accounts and links an image has, and what reading it answers.
+// The counts of accounts and links in an image, and what reading the image answers.
 ghost use mathlib.Core.Path.{_≡_};
 ghost use Rattle.image_read.specs.Read.{goodAccounts, goodLinks, readEnd};
 use super::ImageAnswer;
@@ -6,7 +6,7 @@ use super::field;
 use super::refused;
 use tables::Settings;
 
-// The accounts after the head, up to the first field that is none or is refused.
+// The number of good accounts after the head, up to the first field that is no account or is refused.
 pub(crate) fn count_accounts(image: &[u8]) -> u16
     ensures { λ r. ⌜ r ≡ goodAccounts (now (image .entry)) ⌝ }
 {
@@ -20,7 +20,7 @@ pub(crate) fn count_accounts(image: &[u8]) -> u16
     i
 }
 
-// The links after the accounts, up to the first field that is none or is refused. Without accounts there are none.
+// The number of good links after the accounts, up to the first field that is no link or is refused; 0 without accounts.
 pub(crate) fn count_links(image: &[u8], accounts: u16) -> u16
     ensures { λ r. ⌜ r ≡ goodLinks (now (image .entry)) accounts ⌝ }
 {
@@ -37,7 +37,7 @@ pub(crate) fn count_links(image: &[u8], accounts: u16) -> u16
     j
 }
 
-// The answer at the field after so many accounts and links: its code, or what the end says.
+// The answer at the field after so many accounts and links, which ends the reading: the field's code, 25, or success.
 pub(crate) fn read_end(image: &[u8], accounts: u16, links: u16) -> ImageAnswer
     ensures { λ r. ⌜ r ≡ readEnd (now (image .entry)) accounts links ⌝ }
 {

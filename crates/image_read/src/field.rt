@@ -7,12 +7,12 @@ ghost use Rattle.tables_rules.specs.Rules.{numberRises};
 ghost use Rattle.image_read.specs.Read.{goodField};
 ghost use Rattle.image_field.specs.Checks.{accountFields, linkFields};
 
-// The lengths of an account's data and of a link's, as a field names them.
+// The lengths of an account's data and of a link's data, as a field names a length.
 const ACCOUNT_LENGTH: u16 = tables::ACCOUNT_OCTETS as u16;
 
 const LINK_LENGTH: u16 = tables::LINK_OCTETS as u16;
 
-// Whether the field after so many accounts is an account that passes every check: it stands whole and its values keep
+// Whether the field after i accounts is an account that passes every check: the field stands whole and its values keep
 // their limits.
 pub(crate) fn good_account(image: &[u8], i: u16) -> bool
     requires { ⌜ i < maxAccounts ⌝ }
@@ -26,7 +26,7 @@ pub(crate) fn good_account(image: &[u8], i: u16) -> bool
     tables::terms_at(&image[row..row + tables::ACCOUNT_OCTETS], 0).are_good()
 }
 
-// Whether the number of link j is above that of the link before it.
+// Whether the number of link j is above that of the link before it; true for the first link.
 fn number_rises(image: &[u8], accounts: u16, j: u16, number: u16) -> bool
     requires { ⌜ number ≡ linkIn (linkFields (now image) accounts) j .number ⌝ }
     ensures { λ r. ⌜ r ≡ numberRises (linkFields (now (image .entry)) accounts) j ⌝ }
@@ -44,7 +44,7 @@ fn smax_of(image: &[u8], account: u16) -> u16
     octets::u16_at(image, image_layout::data_offset(account, 0))
 }
 
-// Whether the field after so many accounts and links is a link that passes every check.
+// Whether the field after so many accounts and j links is a link that passes every check.
 pub(crate) fn good_link(image: &[u8], accounts: u16, j: u16) -> bool
     requires { ⌜ 1 ≤ accounts ⌝ ∗ ⌜ j < maxLinks ⌝ }
     ensures { λ r. ⌜ r ≡ goodField (now (image .entry)) linkTag accounts j ⌝ }

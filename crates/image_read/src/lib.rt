@@ -1,4 +1,4 @@
-// The configuration image: what reading any octets as one answers.
+// Reading a configuration image: what any octets are answered when they are read as an image.
 ghost use mathlib.Core.Path.{_≡_};
 ghost use Rattle.image_read.specs.Read.{imageRefused, readImage};
 
@@ -7,7 +7,7 @@ mod field;
 
 use tables::Settings;
 
-// What reading or loading an image answers: the code, the offset that it speaks of, and on success the settings that the
+// What reading or loading an image answers: the code, the offset of the code, and on success the settings that the
 // image names.
 pub struct ImageAnswer {
     pub code: u8,
@@ -15,7 +15,7 @@ pub struct ImageAnswer {
     pub settings: Settings,
 }
 
-// A refusal: the code and the offset, and zeros.
+// A refusal: the code and the offset, with settings of 0.
 pub fn refused(code: u8, offset: usize) -> ImageAnswer
     ensures { λ r. ⌜ r ≡ imageRefused code offset ⌝ }
 {

@@ -1,4 +1,4 @@
-// A reader: an image and a place in it. These functions are proved by hand.
+// A reader: an image and a place in the image. These functions are proved by hand.
 ghost use mathlib.Core.Path.{_≡_};
 ghost use Rattle.image_load.specs.Loading.{loadingOf, loading};
 ghost use Rattle.image_fill.specs.Filling.{runsOf};
@@ -23,7 +23,7 @@ pub fn at<'a>(r: Reader<'a>) -> usize
     r.at
 }
 
-// Loads the whole image from its first octet, whatever the place; the place is then the offset answered.
+// Loads the whole image from its first octet, whatever the reader's place; the place is then the offset answered.
 pub fn load<'s, 'a>(
     r: &'s mut Reader<'a>,
     accounts: &mut [u8],

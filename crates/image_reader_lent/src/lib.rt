@@ -1,17 +1,17 @@
-// A reader of one's own: it is held in a local, lent to `image_reader::load`, and asked for its place. A caller has a plain
-// slice and a number and needs no reader.
+// A reader that this crate owns: the reader is held in a local, lent to `image_reader::load`, and asked for its place.
+// A caller has a plain slice and a number and needs no reader.
 ghost use mathlib.Core.Path.{_≡_};
 ghost use Rattle.image_load.specs.Loading.{loadingOf, loading};
 ghost use Rattle.image_fill.specs.Filling.{runsOf};
 use image_read::ImageAnswer;
 
-// What a reader answered, and its place then.
+// What a reader answered, and the reader's place after that.
 pub struct Reading {
     pub answer: ImageAnswer,
     pub at: usize,
 }
 
-// Loads an image through a reader that starts at any place, past the image's end too.
+// Loads an image through a reader that starts at any place, also past the image's end.
 pub fn load_from(
     image: &[u8],
     place: usize,

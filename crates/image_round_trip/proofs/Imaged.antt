@@ -1,4 +1,5 @@
--- The fields of an image, found again in its octets; and octets that are written out as fields, spelled as an image. Assumes nothing.
+-- The fields of an image, found again in the image's octets; and octets that are written out as fields, spelled as an
+-- image. Assumes nothing.
 use Prim.Native.Nat.{ℕ, _+_, _*_, _≤_, _<_}
 use mathlib.Core.List.{List, [], _∷_, _++_}
 use mathlib.Core.Path.{_≡_, sym, ap, ap₂, _∙_}

@@ -42,7 +42,7 @@ use Rattle.fields.proofs.Fields.{stands-by, tag-read, length-read, data-read, f
 use Rattle.image_round_trip.proofs.Imaged.{image-head, image-account, image-link, image-end, image-spelled}
 use Rattle.image_octets.proofs.Written.{rowField, length-head, length-image}
 
--- ---- small things that both round trips use
+-- ---- laws that both round trips use
 abbrev accepting : ℕ → ℕ → ℕ → ℕ → ImageAnswer
 accepting l c n m = record { code = 0; offset = l; settings = settingsOf c n m }
 
@@ -90,7 +90,7 @@ links-all : (g : Config) → g .linkCount ≤ badLink g → (j : ℕ) → j < g 
 unfolding badLink
 links-all g h j l = leading-before (linkGood (accountTable (g .accounts)) (linkTable (g .links)) (g .accountCount)) (g .linkCount) j (omega arith)
 
--- a success says so
+-- tables whose image is written with success are tables that the writer accepts
 accepts : (g : Config) (room : ℕ) → writeAnswer g room .code ≡ 0 → Accepts g room
 accepts g room =
     by-writing g (λ w. w .code ≡ 0 → Accepts g room) room
@@ -104,7 +104,7 @@ accepts g room =
     (λ c a b o. record { counts = e; constant = c; accounts = accounts-all g a; links = links-all g b; fits = h })
     v)
 
--- good counts and good values say so, for a room that is just long enough
+-- tables with good counts and good values are tables that the writer accepts, for a room that is just long enough
 accepts-values : (g : Config) → countsGood (g .accounts) (g .accountCount) (g .links) (g .linkCount) ≡ true → valueAnswer g .code ≡ 0
     → Accepts g (imageLength (g .accountCount) (g .linkCount))
 accepts-values g e =
@@ -114,7 +114,7 @@ accepts-values g e =
     (λ b o. absurd (omega arith))
     (λ c a b o. record { counts = e; constant = c; accounts = accounts-all g a; links = links-all g b; fits = omega arith })
 
--- and the way back: such tables are written
+-- tables that the writer accepts are written
 all-accounts : (g : Config) (room : ℕ) → Accepts g room → badAccount g ≡ g .accountCount
 unfolding badAccount
 all-accounts g room a = leading-is (accountGood (accountTable (g .accounts))) (g .accountCount) (g .accountCount) (omega arith) (a .accounts) (λ h. absurd (omega arith))
@@ -196,7 +196,7 @@ module _ (g : Config) (room : ℕ) (a : Accepts g room) (c32 : g .constant < 2 ^
   links-back : (j : ℕ) → j < m → linkIn (linkFields s n) j ≡ linkIn (linkTable (g .links)) j
   links-back j l = link-part s (g .links) _ _ (link-back j l)
 
-  -- so every field passes
+  -- every field of the image passes
   length-is : length s ≡ imageLength n m
   length-is = length-image g
 
@@ -254,7 +254,7 @@ module _ (g : Config) (room : ℕ) (a : Accepts g room) (c32 : g .constant < 2 ^
       reads-as s n m (some-n .1) (some-m .0) (some-m .1) head-ok account-ok link-ok (link-tag 0 (some-m .0)) end-is end-ok length-is
       ∙ ap (λ (c : ℕ). accepting (length s) c n m) constant-back
 
-  -- and the rows are the tables' own
+  -- the rows that are loaded are the tables' own
   rows-back : accountRows s n ≡ take (accountOctets * n) (g .accounts)
   unfolding accountRows
   rows-back =
@@ -318,7 +318,7 @@ module _ (s : List ℕ) (o : (i : ℕ) → getD s i 0 < 256) (z : readImage s .c
   link-field-good : (j : ℕ) → j < q .settings .links → goodField s linkTag (q .settings .accounts) j ≡ true
   link-field-good j l = let e = ok .links-are in counted-link s (q .settings .accounts) j (omega arith)
 
-  -- the writer accepts them
+  -- the writer accepts the tables that were loaded
   pub read-accepts : (room : ℕ) → length s ≤ room → Accepts g room
   read-accepts room h =
       let l = ok .length-is in
@@ -336,7 +336,7 @@ module _ (s : List ℕ) (o : (i : ℕ) → getD s i 0 < 256) (z : readImage s .c
         fits = omega arith;
       }
 
-  -- and their image is the one that was read
+  -- the image of the tables that were loaded is the one that was read
   spelled-head : octetsAt headSize s 0 ≡ fieldOf headTag (edition ∷ octetsOf 4 (q .settings .constant))
   spelled-head =
       let p = head-passes s (ok .head-code) in
@@ -373,7 +373,7 @@ module _ (s : List ℕ) (o : (i : ℕ) → getD s i 0 < 256) (z : readImage s .c
   pub image-again : imageOf g ≡ s
   image-again = image-spelled g s (ok .length-is) spelled-head spelled-account spelled-link spelled-end
 
--- tables that hold what loading writes, and nothing beyond
+-- tables that hold what loading writes, and nothing beyond that
 just : (s : List ℕ) → readImage s .code ≡ 0
     → Fresh s (runsOf (accountRows s (readImage s .settings .accounts)) (capacities (accountFields s) (readImage s .settings .accounts)) (replicate (readImage s .settings .accounts) 0) (linkRows s (readImage s .settings .accounts) (readImage s .settings .links)))
 just s z = record { accepted = z; accounts = take-length _; credits = take-length _; lasts = take-length _; links = take-length _ }

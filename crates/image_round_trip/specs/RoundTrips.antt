@@ -22,7 +22,8 @@ tablesIn s =
     (accountRows s (readImage s .settings .accounts))
     (linkRows s (readImage s .settings .accounts) (readImage s .settings .links))
 
--- good tables are those with neither a bad count nor a bad value
+-- accepted octets are the image of the tables that they name, and the image of good tables is accepted; good tables are
+-- those with neither a bad count nor a bad value
 abbrev pub AcceptedIsImage : Type 0
 AcceptedIsImage =
     (s : List ℕ) → ((i : ℕ) → getD s i 0 < 256) → readImage s .code ≡ 0
@@ -38,11 +39,12 @@ ImageIsAccepted =
 
 -- ---- write, then read
 
--- what was written: the image's octets in the room
+-- the octets that were written: as many of the room's first octets as writing answers
 abbrev pub writtenImage : Config → List ℕ → List ℕ
 writtenImage g d = take (writing g d .answer .offset) (writing g d .room)
 
--- loading what was written from these tables: their constant field, counts and rows, credits at capacity, last times 0
+-- what loading such an image answers and leaves: the tables' constant field, counts and rows, credits at capacity, last
+-- times 0
 unfoldable pub readBack : Config → Runs → Loading
 readBack g r =
     loadingOf
@@ -53,8 +55,8 @@ readBack g r =
     (put (r .lasts) 0 (replicate (g .accountCount) 0))
     (put (r .links) 0 (take (linkOctets * g .linkCount) (g .links))))
 
--- for any tables that the writer accepts, with whatever rows lie beyond the counts, any room and any runs that are long enough;
--- the constant field is one of 32 bits
+-- the image of any tables that the writer accepts loads as these tables, whatever rows lie beyond the counts, for any
+-- room and any runs that are long enough; the constant field has 32 bits
 abbrev pub WriteRead : Type 0
 WriteRead =
     (g : Config) (d : List ℕ) (r : Runs) → g .constant < 2 ^ 32 → writing g d .answer .code ≡ 0
@@ -63,11 +65,12 @@ WriteRead =
 
 -- ---- read, then write
 
--- the tables that loading left, with its answer
+-- the tables that loading left, with the settings that loading answered
 abbrev pub loadedTables : List ℕ → Runs → Config
 loadedTables s r = configFor (loading s r .answer .settings) (loading s r .runs .accounts) (loading s r .runs .links)
 
--- for any octets that load, into any runs, and any room that is long enough: the same octets, and the room beyond them as it was
+-- any octets that load, into any runs, are written again octet for octet into any room that is long enough; the room
+-- beyond them is unchanged
 abbrev pub ReadWrite : Type 0
 ReadWrite =
     (s : List ℕ) (r : Runs) (d : List ℕ) → ((i : ℕ) → getD s i 0 < 256) → loading s r .answer .code ≡ 0 → length s ≤ length d

@@ -1,4 +1,4 @@
--- Laws of what writing answers, case by case as the code makes them. Assumes nothing.
+-- Laws of what writing answers, case by case as the code makes the checks. Assumes nothing.
 use Prim.Native.Nat.{ℕ, _*_, _≤_, _<_}
 use mathlib.Core.Bool.{Bool, true, false, not}
 use mathlib.Core.List.{List}
@@ -109,7 +109,7 @@ module _ (g : Config) (room : ℕ) (r : Bool) (e : r ≡ countsGood (g .accounts
       unfolding writeAnswer
       room-enough k = v ∙ simp (← e, not-false r h, eq-eqb _ _ fine, le-ltb _ _ (rw p at k))
 
--- ---- by cases of what writing answers
+-- ---- case analysis of what writing answers
 module _ (g : Config) (P : Written → Type 0) where
   pub by-values :
       (constantGood (g .constant) ≡ false → P (writtenOf 23 0))
@@ -170,7 +170,7 @@ module _ (g : Config) (d : List ℕ) (q : Written) (e : q ≡ writeAnswer g (len
   unfolding writing
   writing-done z x v = ap₂ writingOf e v ∙ simp (eq-eqb _ _ (sym (ap (λ (w : Written). w .code) e) ∙ z))
 
--- the answer stands beside the room, whatever it is
+-- the answer beside the room is that of writing, whatever the answer
 pub writing-answer : (g : Config) (d : List ℕ) → writing g d .answer ≡ writeAnswer g (length d)
 unfolding writing
 writing-answer g d =

@@ -22,7 +22,7 @@ use Rattle.image_write.specs.Claims.{CountsExactly, WriteRefuses, WriteA
 use Rattle.image_write.proofs.Answers.{writing-answer, counts-bad, room-short, room-enough, constant-bad, account-bad, link-bad, value-bad, by-values, by-writing, writing-refused}
 use Rattle.image_octets.proofs.Written.{length-image}
 
--- by cases of what writing answers and leaves
+-- case analysis of what writing answers and leaves
 by-write : (g : Config) (d : List ℕ) (P : Writing → Type 0)
     → P (writingOf (writtenOf 24 0) d)
     → ((at : ℕ) → P (writingOf (writtenOf 23 at) d))
@@ -47,7 +47,7 @@ by-write g d P p24 p23 p26 p0 =
     (λ c a b o. p0 h)
     v)
 
--- counts, from their definition alone
+-- when a count is good, from the definition alone
 count-exactly : (n limit w lent : ℕ) → (countGood n limit w lent ≡ true) ↔ ((1 ≤ n) × (n ≤ limit) × (w * n ≤ lent))
 unfolding countGood
 count-exactly n limit w lent = (

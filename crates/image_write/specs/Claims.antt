@@ -19,7 +19,7 @@ WriteCodes = (g : Config) (d : List ℕ) → List·Memᴰ (writing g d .answer .
 abbrev pub RefusedWriteKeeps : Type 0
 RefusedWriteKeeps = (g : Config) (d : List ℕ) → (writing g d .answer .code ≡ 0 → ⊥) → writing g d .room ≡ d
 
--- 24 and 26 come with offset 0, success with the image's length
+-- the offsets of answers: 0 with 24 and 26, the image's length with success
 abbrev pub WriteOffsets : Type 0
 WriteOffsets =
     (g : Config) (d : List ℕ)
@@ -34,7 +34,7 @@ CountsExactly =
     → (countsGood accounts n links m ≡ true)
     ↔ (((1 ≤ n) × (n ≤ 64) × (6 * n ≤ length accounts)) × ((1 ≤ m) × (m ≤ 256) × (13 * m ≤ length links)))
 
--- when 24, 26 and success come: by the counts; and, counts and values being good, by the room
+-- when 24, 26 and success come: 24 by the counts; with good counts and good values, 26 or success by the room
 abbrev pub WriteRefuses : Type 0
 WriteRefuses =
     (g : Config) (d : List ℕ)
@@ -48,7 +48,8 @@ WriteAccepts =
     → imageLength (g .accountCount) (g .linkCount) ≤ length d
     → writing g d .answer ≡ writtenOf 0 (imageLength (g .accountCount) (g .linkCount))
 
--- 23 with the first bad value: the constant field; else the first account; else, all accounts being good, the first link
+-- 23 with the offset of the first bad value: the constant field; else the first account; else, all accounts being good,
+-- the first link
 abbrev pub FirstBadConstant : Type 0
 FirstBadConstant =
     (g : Config) (d : List ℕ) → countsGood (g .accounts) (g .accountCount) (g .links) (g .linkCount) ≡ true → constantGood (g .constant) ≡ false
@@ -70,12 +71,12 @@ FirstBadLink =
     → linkGood (accountTable (g .accounts)) (linkTable (g .links)) (g .accountCount) j ≡ false
     → writing g d .answer ≡ writtenOf 23 (fieldOffset (g .accountCount) j)
 
--- after success the room holds the image, and after it what stood there
+-- after success the room holds the image, and then what stood there before
 abbrev pub WritesImage : Type 0
 WritesImage =
     (g : Config) (d : List ℕ) → writing g d .answer .code ≡ 0
     → writing g d .room ≡ imageOf g ++ drop (length (imageOf g)) d
 
--- an image's length by its counts
+-- the length of an image, from its counts
 abbrev pub ImageLength : Type 0
 ImageLength = (g : Config) → length (imageOf g) ≡ imageLength (g .accountCount) (g .linkCount)

@@ -13,14 +13,14 @@ use Rattle.tables_rules.specs.Rules.{accountGood, linkGood}
 use Rattle.image_layout.specs.Layout.{maxAccounts, maxLinks, fieldOffset, imageLength, constantGood, imageOf}
 use Rattle.image_write.specs.declared.Written.{Written}
 
--- a count is from 1 to its limit, and rows of w octets are lent for it
+-- whether a count is from 1 to its limit, with so many rows of w octets lent
 unfoldable pub countGood : ℕ → ℕ → ℕ → ℕ → Bool
 countGood n limit w lent = leb 1 n && leb n limit && leb (w * n) lent
 
 unfoldable pub countsGood : List ℕ → ℕ → List ℕ → ℕ → Bool
 countsGood accounts n links m = countGood n maxAccounts accountOctets (length accounts) && countGood m maxLinks linkOctets (length links)
 
--- the first account, and the first link, that has a bad value; the count where none has
+-- the first account, and the first link, with a bad value; the count where no value is bad
 unfoldable pub badAccount : Config → ℕ
 badAccount g = leading (accountGood (accountTable (g .accounts))) (g .accountCount)
 
@@ -30,7 +30,8 @@ badLink g = leading (linkGood (accountTable (g .accounts)) (linkTable (g .links)
 abbrev pub writtenOf : ℕ → ℕ → Written
 writtenOf code offset = record { code = code; offset = offset }
 
--- 23 with the offset that the first bad field would have, the constant field's first; else the length of the image
+-- the answer by the values: 23 with the offset that the first bad field would have, the constant field's first; else 0
+-- with the length of the image
 unfoldable pub valueAnswer : Config → Written
 valueAnswer g =
     if not (constantGood (g .constant)) then writtenOf Codes.badValue 0
@@ -38,7 +39,7 @@ valueAnswer g =
     else if ltb (badLink g) (g .linkCount) then writtenOf Codes.badValue (fieldOffset (g .accountCount) (badLink g))
     else writtenOf Codes.success (imageLength (g .accountCount) (g .linkCount))
 
--- 24, then 23, then 26 for a room of this length
+-- the answer of writing into a room of this length: 24, then 23, then 26
 unfoldable pub writeAnswer : Config → ℕ → Written
 writeAnswer g room =
     if not (countsGood (g .accounts) (g .accountCount) (g .links) (g .linkCount)) then writtenOf Codes.badCount 0
@@ -46,7 +47,7 @@ writeAnswer g room =
     else if ltb room (imageLength (g .accountCount) (g .linkCount)) then writtenOf Codes.noRoom 0
     else valueAnswer g
 
--- an answer, and the room beside it
+-- an answer of writing, with the room after writing
 pub record Writing : Type 0 where
   pub answer : Written
   pub room : List ℕ
@@ -54,7 +55,7 @@ pub record Writing : Type 0 where
 abbrev pub writingOf : Written → List ℕ → Writing
 writingOf q d = record { answer = q; room = d }
 
--- a refusal writes nothing; success writes the image at the room's start
+-- what writing answers and leaves: a refusal writes nothing; success writes the image at the room's start
 unfoldable pub writing : Config → List ℕ → Writing
 writing g d =
     if eqb (writeAnswer g (length d) .code) Codes.success

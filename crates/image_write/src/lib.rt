@@ -25,7 +25,7 @@ fn count_good(n: usize, limit: u16, size: u8, lent: usize) -> bool
     size as usize * n <= lent
 }
 
-// Whether both counts are.
+// Whether both counts are good.
 fn counts_good(accounts: &[u8], n: usize, links: &[u8], m: usize) -> bool
     ensures { λ r. ⌜ r ≡ countsGood (now (accounts .entry)) n (now (links .entry)) m ⌝ }
 {
@@ -45,7 +45,7 @@ fn counts_good(accounts: &[u8], n: usize, links: &[u8], m: usize) -> bool
     )
 }
 
-// What writing answers, by the rows, the counts and the length of the room.
+// What writing answers, from the rows, the counts and the length of the room.
 fn write_answer(
     constant: u32,
     accounts: &[u8],
@@ -75,8 +75,8 @@ fn write_answer(
     answer
 }
 
-// Writes the image of the first rows of two tables. After any code but 0 the room is as it was; after 0 the octets after
-// the image are.
+// Writes the image of the first rows of two tables. After any code but 0 the room is unchanged; after 0 the octets
+// after the image are.
 pub fn write(
     constant: u32,
     accounts: &[u8],

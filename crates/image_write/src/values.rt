@@ -8,7 +8,7 @@ ghost use Rattle.image_write.specs.Writing.{valueAnswer};
 use super::Written;
 use rows::Spacing;
 
-// Rows of accounts and of links that touch.
+// The spacing of account rows and of link rows that touch.
 fn account_rows() -> Spacing
     ensures { λ r. ⌜ r ≡ spacing 0 accountOctets ⌝ }
 {
@@ -27,7 +27,7 @@ fn link_rows() -> Spacing
     }
 }
 
-// The first of n account rows with a bad value, n where none has.
+// The first of n account rows with a bad value, n where no row has one.
 fn bad_account(accounts: &[u8], n: u16) -> u16
     ensures { λ r. ⌜ r ≡ leading (accountGood (accountTable (now (accounts .entry)))) n ⌝ }
 {
@@ -41,7 +41,7 @@ fn bad_account(accounts: &[u8], n: u16) -> u16
     i
 }
 
-// The first of m link rows with a bad value, m where none has.
+// The first of m link rows with a bad value, m where no row has one.
 fn bad_link(accounts: &[u8], n: u16, links: &[u8], m: u16) -> u16
     ensures { λ r. ⌜ r ≡ leading (linkGood (accountTable (now (accounts .entry))) (linkTable (now (links .entry))) n) m ⌝ }
 {
@@ -55,7 +55,7 @@ fn bad_link(accounts: &[u8], n: u16, links: &[u8], m: u16) -> u16
     j
 }
 
-// 23 with the offset that the first bad field would have, or 0 with the length of the image.
+// The answer by the values: 23 with the offset that the first bad field would have, or 0 with the length of the image.
 pub(crate) fn value_answer(constant: u32, accounts: &[u8], n: u16, links: &[u8], m: u16) -> Written
     ensures { λ r. ⌜ r ≡ valueAnswer (configOf constant (now (accounts .entry)) n (now (links .entry)) m) ⌝ }
 {

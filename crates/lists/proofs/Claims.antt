@@ -1,4 +1,4 @@
--- What the picked answers are, and which line of a table gives its code. Assumes nothing.
+-- What the answers to picked calls are, and which line of a table gives the code. Assumes nothing.
 use Prim.Native.Nat.{ℕ}
 use mathlib.Core.Bool.{Bool}
 use mathlib.Core.List.{List, [], _∷_, map}

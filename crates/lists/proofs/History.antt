@@ -8,14 +8,14 @@ use Rattle.lists.specs.Lists.{only, answersTo}
 use Rattle.lists.specs.History.{Machine, answers, final, leftBy, byCalls, byAnswers}
 use Rattle.lists.proofs.Tests.{split}
 
--- ---- one list after another
+-- ---- a list of calls after another list
 module _ {S C A : Type 0} (m : Machine S C A) where
   pub answers-append : (h k : List C) (s : S) → answers m s (h ++ k) ≡ answers m s h ++ answers m (final m s h) k
   unfolding answers final
   answers-append [] k s = refl
   answers-append (c ∷ h) k s = ap (_∷_ (m .says s c)) (answers-append h k (m .leaves s c))
 
-  -- what holds of every answer that a call can get, of each in a list
+  -- a property of every answer that a call can get is one of each answer in a list
   pub answers-each : (P : A → Type 0) → ((s : S) (c : C) → P (m .says s c))
       → (h : List C) (s : S) (a : A) → List·Memᴰ a (answers m s h) → P a
   unfolding answers
@@ -33,7 +33,7 @@ module _ {S C A : Type 0} (m : Machine S C A) where
   unfolding leftBy
   left-by h s = past-final h [] s
 
--- ---- the state of a rule is the past; from none, `reverse` of the calls or of the answers
+-- ---- the state of a rule is the past: from the empty past, `reverse` of the calls or of the answers
 pub final-calls : {C A : Type 0} (rule : List C → C → A) (h past : List C) → final (byCalls rule) past h ≡ reverseAux h past
 unfolding final
 final-calls rule [] past = refl
@@ -45,15 +45,15 @@ unfolding answers final
 final-answers rule [] past = refl
 final-answers rule (c ∷ h) past = final-answers rule h (rule past c ∷ past)
 
--- ---- a simulation, on the calls of a list: from states that R relates, n answers what m's answer reports, and R relates what they
--- leave
+-- ---- a simulation, on the calls of a list: from states that R relates, n answers what m's answer reports, and R
+-- relates the states that both leave
 pub record Simulates {S T C A B : Type 0} (m : Machine S C A) (n : Machine T C B)
     (tells : A → B) (R : T → S → Type 0) (h : List C) : Type 0 where
   pub each : (c : C) → List·Memᴰ c h → (t : T) (s : S) → R t s
       → (tells (m .says s c) ≡ n .says t c) × R (n .leaves t c) (m .leaves s c)
 
 module _ {S T C A B : Type 0} {m : Machine S C A} {n : Machine T C B} {tells : A → B} {R : T → S → Type 0} where
-  -- then the whole list is answered so
+  -- a simulation on every call carries over to the whole list
   pub simulated : (h : List C) → Simulates m n tells R h → (t : T) (s : S) → R t s
       → (map tells (answers m s h) ≡ answers n t h) × R (final n t h) (final m s h)
   unfolding answers final
@@ -63,12 +63,13 @@ module _ {S T C A B : Type 0} {m : Machine S C A} {n : Machine T C B} {tells : A
       let z = simulated h (record { each = λ d i. k .each d (List·Memᴰ·tail i) }) (n .leaves t c) (m .leaves s c) (q .1) in
       (ap₂ _∷_ (q .0) (z .0), z .1)
 
--- the same answers
+-- a simulation with equal answers has equal lists of answers
 pub same-answers : {S T C A : Type 0} {m : Machine S C A} {n : Machine T C A} {R : T → S → Type 0}
     (h : List C) → Simulates m n (λ x. x) R h → (t : T) (s : S) → R t s → answers m s h ≡ answers n t h
 same-answers {m = m} h k t s r = sym (map-id (answers m s h)) ∙ simulated h k t s r .0
 
--- ---- a simulation by the picked calls alone: these n answers as m does, and any other call, of which n knows nothing, keeps R
+-- ---- a simulation by the picked calls alone: n answers the picked calls as m does, and any other call, of which n
+-- knows nothing, keeps R
 pub record SimulatesPicked {S T C A : Type 0} (m : Machine S C A) (n : Machine T C A)
     (pick : C → Bool) (R : T → S → Type 0) (h : List C) : Type 0 where
   pub picked : (c : C) → List·Memᴰ c h → pick c ≡ true → (t : T) (s : S) → R t s
@@ -91,7 +92,8 @@ module _ {S T C A : Type 0} {m : Machine S C A} {n : Machine T C A} {pick : C �
       simp e (ap₂ _∷_ (q .0) (z .0), z .1))
       (λ e. simp e (simulated-picked h (rest c h k) t (m .leaves s c) (k .others c (List·Memᴰ·head refl) e t s r)))
 
--- ---- two histories that share the picked calls: the same answers to these, and what they leave is related to one state
+-- ---- two histories that share the picked calls: the same answers to these calls, and the states left are related to
+-- one state
 pub alike : {S S′ T C A : Type 0} {m : Machine S C A} {m′ : Machine S′ C A} {n : Machine T C A}
     {pick : C → Bool} {R : T → S → Type 0} {R′ : T → S′ → Type 0}
     (h h′ : List C) → SimulatesPicked m n pick R h → SimulatesPicked m′ n pick R′ h′ → only pick h ≡ only pick h′
@@ -103,7 +105,7 @@ alike {C = C} {m′ = m′} {n = n} {R′ = R′} h h′ k k′ e t s r s′ r�
     let z′ = simulated-picked h′ k′ t s′ r′ in
     (z .0 ∙ ap (answers n t) e ∙ sym (z′ .0), z .1, subst (λ (g : List C). R′ (final n t g) (final m′ s′ h′)) (sym e) (z′ .1))
 
--- ---- what is collected call by call, from the calls with their answers
+-- ---- a list collected call by call, from the calls with their answers
 module _ {S C A R : Type 0} (m : Machine S C A) (collect : S → List R) (pick : C × A → Bool) (count : C × A → R)
     (each : (s : S) (c : C)
     → collect (m .leaves s c) ≡ (if pick (c, m .says s c) then count (c, m .says s c) ∷ collect s else collect s)) where

@@ -1,4 +1,5 @@
--- Laws of how far a test goes on holding. Clients use these and leave the definition shut. Assumes nothing.
+-- Laws of the count of consecutive items, from the first, that pass a test. Clients use these laws and leave the
+-- definition shut. Assumes nothing.
 use Prim.Native.Nat.{ℕ, zero, suc, _≤_, _<_}
 use mathlib.Core.Bool.{Bool, true, false, not, _&&_, false≢true}
 use mathlib.Core.Path.{_≡_, refl, sym, ap, ap₂, _∙_}
@@ -13,7 +14,7 @@ module _ (f : ℕ → Bool) where
   unfolding leading
   leading-zero = refl
 
-  -- one index more
+  -- one more item that passes
   pub leading-on : (n : ℕ) → leading f n ≡ n → f n ≡ true → leading f (suc n) ≡ suc n
   unfolding leading
   leading-on n e t = simp (eq-eqb _ _ e, t)
@@ -38,7 +39,7 @@ module _ (f : ℕ → Bool) where
       let q = leading-on n (eqb-true _ _ (b .0)) (b .1) in omega arith)
       (λ e. let q = halt n e in omega arith)
 
-  -- a test that fails at i, and holds before it, stops every longer search there
+  -- a test that fails at i, and passes before i, stops every longer count at i
   pub leading-stop : (i n : ℕ) → leading f i ≡ i → f i ≡ false → i < n → leading f n ≡ i
   leading-stop i zero e t h = absurd (omega arith)
   leading-stop i (suc n) e t h =
@@ -52,7 +53,7 @@ module _ (f : ℕ → Bool) where
       let r : leading f n ≡ i = leading-stop i n e t p in
       stay n (λ z. omega arith) ∙ r)
 
-  -- it holds before the index found
+  -- every item before the count passes
   pub leading-before : (n k : ℕ) → k < leading f n → f k ≡ true
   leading-before zero k h = let z = leading-zero in absurd (omega arith)
   leading-before (suc n) k h =
@@ -66,7 +67,7 @@ module _ (f : ℕ → Bool) where
       (λ w. let p : k < n = leb-false _ _ w in leading-before n k (omega arith)))
       (λ e. let q = halt n e in leading-before n k (omega arith))
 
-  -- and fails at it
+  -- the item at the count fails
   pub leading-fails : (n : ℕ) → leading f n < n → f (leading f n) ≡ false
   leading-fails zero h = absurd (omega arith)
   leading-fails (suc n) h =
@@ -87,7 +88,7 @@ module _ (f : ℕ → Bool) where
       let d : (leading f n ≡ n → ⊥) = λ y. false≢true (sym z ∙ eq-eqb _ _ y) in
       leading-fails n (omega arith))))
 
-  -- the index at which it first fails, or all of them
+  -- the count is i where all items before i pass and item i fails, or i is all items
   pub leading-is : (i n : ℕ) → i ≤ n → ((k : ℕ) → k < i → f k ≡ true) → (i < n → f i ≡ false) → leading f n ≡ i
   leading-is i n h all end =
       let r = reach i all in
@@ -99,13 +100,13 @@ module _ (f : ℕ → Bool) where
       reach zero a = leading-zero
       reach (suc j) a = leading-on j (reach j (λ k l. a k (omega arith))) (a j (omega arith))
 
--- tests that agree below n
+-- tests that agree below n have the same count
 pub leading-same : (f g : ℕ → Bool) (n : ℕ) → ((k : ℕ) → k < n → f k ≡ g k) → leading f n ≡ leading g n
 unfolding leading
 leading-same f g zero h = refl
 leading-same f g (suc n) h = rw (leading-same f g n (λ k l. h k (omega arith)), h n (omega arith))
 
--- ---- as a loop goes: i indexes seen, the test at i in hand
+-- ---- a counting loop: i items seen, the test of item i in hand
 module _ (f : ℕ → Bool) (i : ℕ) (s : leading f i ≡ i) (r : Bool) (e : r ≡ f i) where
   pub count-stops : (n : ℕ) → i < n → not r ≡ true → i ≡ leading f n
   count-stops n h q = sym (leading-stop f i n s (sym e ∙ not-true r q) h)

@@ -10,7 +10,7 @@ pub takes : (c : ℕ) (b : Bool) (ls : List Line) → b ≡ true → c ≡ first
 unfolding firstFit
 takes c b ls e = simp e
 
--- one that does not is passed
+-- a line that doesn't fit is passed over
 pub skips : (c d : ℕ) (b : Bool) (ls : List Line) → b ≡ false → d ≡ firstFit ls → d ≡ firstFit (line c b ∷ ls)
 unfolding firstFit
 skips c d b ls e q = q ∙ simp e

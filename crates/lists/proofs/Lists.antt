@@ -1,4 +1,4 @@
--- Laws of the part of a list that a test holds of. Assumes nothing.
+-- Laws of the items of a list that pass a test. Assumes nothing.
 use mathlib.Core.Bool.{Bool, true, false}
 use mathlib.Core.List.{List, [], _∷_}
 use mathlib.Core.Path.{_≡_, refl}

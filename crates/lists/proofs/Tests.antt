@@ -1,5 +1,5 @@
--- Tests and what they say: a choice by its test's value, both halves of a conjunction, neither of two numbers, orders that imply
--- each other. Assumes nothing.
+-- Tests and what they say: case analysis of a test, both halves of a conjunction, a number that is neither of two,
+-- orders that imply each other. Assumes nothing.
 use Prim.Native.Nat.{ℕ, _≤_, _<_}
 use mathlib.Core.Bool.{Bool, true, false, _&&_, false≢true}
 use mathlib.Core.Logic.{_⊎_, ⊎-elim}
@@ -8,7 +8,7 @@ use native.Mathlib.Omega.{arith}
 use lib.Dec.{leb, ltb}
 use borrow.Author.Tests.{leb-true, leb-false, le-leb, le-ltb, lt-ltb}
 
--- by cases on a test, with the equation in hand
+-- case analysis of a test, with the equation in hand
 pub split : {P : Type 0} (b : Bool) → (b ≡ true → P) → (b ≡ false → P) → P
 split true f g = f refl
 split false f g = g refl
@@ -31,7 +31,7 @@ leb-same a b c d f g =
     (λ h. let x : a ≤ b = g (leb-true c d h) in let y : b < a = leb-false a b e in absurd (omega arith))
     (λ h. e ∙ sym h))
 
--- what is at most another is not above it, and the other way round
+-- a number is at most another exactly where it is not above the other
 pub not-above : (a b : ℕ) → leb a b ≡ true → ltb b a ≡ false
 not-above a b e = le-ltb b a (leb-true a b e)
 

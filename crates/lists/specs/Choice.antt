@@ -1,4 +1,4 @@
--- The library's `cond`, written as a choice reads.
+-- The library's `cond`, written as if, then and else.
 use mathlib.Core.Bool.{Bool, cond}
 
 infixr 10 if_then_else_

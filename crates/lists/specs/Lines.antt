@@ -4,7 +4,7 @@ use mathlib.Core.Bool.{Bool}
 use mathlib.Core.List.{List, [], _∷_}
 use Rattle.lists.specs.Choice.{if_then_else_}
 
--- a line: its code, and whether it fits
+-- a line of a table: its code, and whether the line fits
 pub record Line : Type 0 where
   pub code : ℕ
   pub fits : Bool
@@ -12,7 +12,7 @@ pub record Line : Type 0 where
 abbrev pub line : ℕ → Bool → Line
 line c b = record { code = c; fits = b }
 
--- the code of the first line that fits, 0 where none does
+-- the code of the first line that fits, 0 where no line fits
 unfoldable pub firstFit : List Line → ℕ
 firstFit [] = 0
 firstFit (l ∷ ls) = if l .fits then l .code else firstFit ls

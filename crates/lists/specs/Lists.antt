@@ -1,4 +1,4 @@
--- The part of a list that a test holds of, and the answers to the calls of that part.
+-- The items of a list that pass a test, and the answers to the calls that pass a test.
 use mathlib.Core.Bool.{Bool}
 use mathlib.Core.List.{List, [], _∷_}
 use Rattle.lists.specs.Choice.{if_then_else_}
@@ -7,7 +7,7 @@ unfoldable pub only : {A : Type 0} → (A → Bool) → List A → List A
 only p [] = []
 only p (x ∷ xs) = if p x then x ∷ only p xs else only p xs
 
--- the answers, one to each call, of those calls that the test holds of
+-- the answers to the calls that pass a test, from one answer a call
 unfoldable pub answersTo : {C A : Type 0} → (C → Bool) → List C → List A → List A
 answersTo p [] ws = []
 answersTo p (c ∷ cs) [] = []

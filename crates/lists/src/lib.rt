@@ -1,2 +1,2 @@
-// No code: lists of calls, each on what the one before left (specs/History.antt), the parts of lists that a test picks, how
-// far a test goes on holding, and the choice by a test.
+// No code: lists of calls, each on the state that the call before left (specs/History.antt), items of a list that pass
+// a test, the count of consecutive items, from the first, that pass a test, tables of codes, and the choice by a test.

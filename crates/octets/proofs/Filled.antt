@@ -27,7 +27,7 @@ module _ {d : List ℕ} {at w : ℕ} {f : ℕ → List ℕ} {n : ℕ} where
   fill-start each room = record { each = each; room = room; below = omega arith; is = sym (put-none d at); long = refl }
 
   module _ {i : ℕ} {e : List ℕ} (b : Filled d at w f n i e) where
-    -- after the last one
+    -- all pieces written, after the last one
     pub fill-end : n ≤ i → {xs : List ℕ} → joined f n ≡ xs → e ≡ put d at xs
     fill-end l x = rw (← le-antisymm l (b .below)) at (b .is) ∙ ap (put d at) x
 
@@ -62,14 +62,14 @@ pub fill-refused : (d : List ℕ) (at w : ℕ) (f : ℕ → List ℕ) (n : ℕ) 
     → {r : Bool} {size : ℕ} → size ≡ w * n → r ≡ leb (at + size) (length d) → not r ≡ true → d ≡ put d at (joined f n)
 fill-refused d at w f n each s e = put-refused d at (joined f n) _ _ e (length-joined f w each n ∙ sym s)
 
--- ---- pieces of one element: the next one stored
+-- ---- pieces of one element: the next element stored
 pub fill-one : {d : List ℕ} {at : ℕ} {g : ℕ → ℕ} {n i : ℕ} {e : List ℕ} → Filled d at 1 (λ k. g k ∷ []) n i e → i < n
     → {p x : ℕ} → p ≡ at + i → x ≡ g i → Filled d at 1 (λ k. g k ∷ []) n (i + 1) (set e p x)
 fill-one {i = i} {e} b l {p} {x} q v =
     let h = fill-room b l in
     fill-next b l {p = p} {xs = x ∷ []} (omega arith) (ap (λ (y : ℕ). y ∷ []) v) (put-one e p x (omega arith))
 
--- the octets of a part one by one, and equal elements
+-- pieces that are the octets of a part, and pieces that are equal elements
 abbrev pub octetFrom : List ℕ → ℕ → ℕ → List ℕ
 octetFrom s at k = getD s (at + k) 0 ∷ []
 

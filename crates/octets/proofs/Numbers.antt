@@ -8,7 +8,7 @@ use lib.ListN.{length, getD, length-append, List·getD-eq-default, List·getD-ap
 use lib.Seq.{getD-at}
 use Rattle.octets.specs.Numbers.{numberAt, octetsOf}
 
--- one octet
+-- a number of one octet
 pub number-one : (s : List ℕ) (at : ℕ) → numberAt 1 s at ≡ getD s at 0
 unfolding numberAt
 number-one s at = zero-add (getD s (at + 0) 0) ∙ ap (λ (i : ℕ). getD s i 0) (add-zero at)
@@ -34,7 +34,7 @@ pub number-halves : (w : ℕ) (s : List ℕ) (at high low : ℕ) → high ≡ nu
     → high * 256 ^ w + low ≡ numberAt (w + w) s at
 number-halves w s at high low e f = rw (e, f) (sym (number-join w w s at))
 
--- two octets of which at most the first is there
+-- two octets of which at most the first is inside the run
 pub number-first : (s : List ℕ) (at x : ℕ) → length s < at + 2 → x ≡ getD s at 0 → x * 256 ≡ numberAt 2 s at
 number-first s at x h e =
     sym (add-zero (x * 256))
@@ -62,7 +62,7 @@ unfolding octetsOf
 length-octets zero x = refl
 length-octets (suc w) x = simp length-append (omega (arith, length-octets w (x / 256)))
 
--- they spell it
+-- the octets of a number spell that number
 pub number-octets : (w x : ℕ) → x < 256 ^ w → numberAt w (octetsOf w x) 0 ≡ x
 unfolding numberAt octetsOf
 number-octets zero x h = let k : x < 1 = rw (pow-zero 256) at h in omega arith
@@ -75,7 +75,7 @@ number-octets (suc w) x h =
     let low : getD (octetsOf w (x / 256) ++ (x % 256 ∷ [])) (0 + w) 0 ≡ x % 256 = getD-at (octetsOf w (x / 256)) (x % 256) [] 0 (0 + w) (omega arith) in
     ap₂ (λ (a b : ℕ). a * 256 + b) high low ∙ div-add-mod' x 256
 
--- the octets of v + w are those of the high part and those of the low part
+-- the octets of a number of width v + w are those of its high part and those of its low part
 pub octets-join : (v w x : ℕ) → octetsOf (v + w) x ≡ octetsOf v (x / 256 ^ w) ++ octetsOf w x
 unfolding octetsOf
 octets-join v zero x = rw (add-zero v, pow-zero 256) (ap (octetsOf v) (sym (div-one x)) ∙ sym (append-nil _))

@@ -13,7 +13,7 @@ use Rattle.octets.specs.Runs.{octetsAt, joined}
 use Rattle.octets.proofs.Numbers.{number-shift}
 use Rattle.lists.proofs.Tests.{split}
 
--- from the end on all octets are 0, wherever one starts
+-- an offset past the end may be cut to the end: all octets from there on are 0
 pub getD-clamped : (s : List ℕ) (at k : ℕ) → getD s (min at (length s) + k) 0 ≡ getD s (at + k) 0
 getD-clamped s at k =
     split (leb at (length s))
@@ -23,7 +23,7 @@ getD-clamped s at k =
     ap (λ (i : ℕ). getD s (i + k) 0) (min-eq-right {n = length s} {m = at} (omega arith))
     ∙ List·getD-eq-default s 0 {n = length s + k} (omega arith) ∙ sym (List·getD-eq-default s 0 {n = at + k} (omega arith)))
 
--- an octet read there
+-- an octet read from an offset that is cut to the end
 pub getD-from : (s : List ℕ) (at k : ℕ) {start x : ℕ} → start ≡ min at (length s)
     → x ≡ getD s (start + k) 0 → x ≡ getD s (at + k) 0
 getD-from s at k e v = v ∙ ap (λ (i : ℕ). getD s (i + k) 0) e ∙ getD-clamped s at k
@@ -63,7 +63,7 @@ part-is w s at xs l h =
     let p = length-part w s at in
     ext-getD 0 (octetsAt w s at) xs (omega arith) (λ k b. getD-part w s at k (omega arith) ∙ h k (omega arith))
 
--- the same octets at two offsets
+-- the same octets at two offsets are equal parts
 pub part-same : (w : ℕ) (s t : List ℕ) (a b : ℕ) → ((k : ℕ) → k < w → getD s (a + k) 0 ≡ getD t (b + k) 0) → octetsAt w s a ≡ octetsAt w t b
 part-same w s t a b h = part-is w s a (octetsAt w t b) (length-part w t b) (λ k l. h k l ∙ sym (getD-part w t b k l))
 
@@ -71,18 +71,18 @@ part-same w s t a b h = part-is w s a (octetsAt w t b) (length-part w t b) (λ k
 pub part-octet : (w : ℕ) (s t : List ℕ) (a b : ℕ) → octetsAt w s a ≡ octetsAt w t b → (k : ℕ) → k < w → getD s (a + k) 0 ≡ getD t (b + k) 0
 part-octet w s t a b e k l = sym (getD-part w s a k l) ∙ ap (λ (xs : List ℕ). getD xs k 0) e ∙ getD-part w t b k l
 
--- where the run holds it
+-- a part that lies inside the run
 pub part-take : (w : ℕ) (s : List ℕ) (at : ℕ) → at + w ≤ length s → octetsAt w s at ≡ take w (drop at s)
 part-take w s at h =
     part-is w s at (take w (drop at s)) (length-take-le w (drop at s) (simp length-drop (omega arith)))
     (λ k l. sym (getD-take w (drop at s) k 0 l ∙ getD-drop at s k 0))
 
--- no octets
+-- a part of no octets
 pub part-none : (s : List ℕ) (at : ℕ) → octetsAt 0 s at ≡ []
 unfolding octetsAt
 part-none s at = refl
 
--- the whole run
+-- the part that is the whole run
 pub part-whole : (s : List ℕ) → octetsAt (length s) s 0 ≡ s
 part-whole s = part-is (length s) s 0 s refl (λ k l. ap (λ (i : ℕ). getD s i 0) (zero-add k))
 
@@ -98,7 +98,7 @@ part-join v (suc w) s at =
     rw (add-suc v w)
     (rw (part-join v w s at, add-assoc at v w) (append-assoc (octetsAt v s at) (octetsAt w s (at + v)) (getD s (at + (v + w)) 0 ∷ [])))
 
--- in the front of two runs, and after it
+-- a part of the first of two runs, and a part of the second
 pub part-front : (w : ℕ) (xs ys : List ℕ) (at : ℕ) → at + w ≤ length xs → octetsAt w (xs ++ ys) at ≡ octetsAt w xs at
 part-front w xs ys at h = part-same w (xs ++ ys) xs at at (λ k l. List·getD-append xs ys 0 (at + k) (omega arith))
 
@@ -107,7 +107,7 @@ part-after w xs ys at k e =
     part-same w (xs ++ ys) ys (at + k) k
     (λ j l. ap (λ (i : ℕ). getD (xs ++ ys) i 0) (add-assoc at k j ∙ ap (λ (i : ℕ). i + (k + j)) (sym e)) ∙ getD-append-add xs ys (k + j) 0)
 
--- the octets of a number that was read are those it was read from
+-- the octets of a number that was read are the octets that it was read from
 pub octets-number : (w : ℕ) (s : List ℕ) (at : ℕ) → ((i : ℕ) → getD s i 0 < 256) → octetsOf w (numberAt w s at) ≡ octetsAt w s at
 unfolding numberAt octetsOf octetsAt
 octets-number zero s at h = refl
@@ -129,7 +129,7 @@ module _ (f : ℕ → List ℕ) (w : ℕ) (each : (i : ℕ) → length (f i) ≡
   length-joined zero = sym (mul-zero w)
   length-joined (suc n) = length-append (joined f n) (f n) ∙ ap₂ _+_ (length-joined n) (each n) ∙ sym (mul-suc w n)
 
-  -- each is found at its offset
+  -- each run is found at its offset
   pub joined-at : (n i : ℕ) → i < n → octetsAt w (joined f n) (w * i) ≡ f i
   unfolding joined
   joined-at zero i h = absurd (omega arith)

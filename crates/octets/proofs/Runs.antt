@@ -17,7 +17,7 @@ use Rattle.octets.proofs.Parts.{length-part, part-take}
 use Rattle.lists.proofs.Tests.{split}
 use Rattle.octets.proofs.Tests.{no-room}
 
--- with room, and without
+-- writing with room, and without room
 pub put-fits : (d : List ℕ) (at : ℕ) (xs : List ℕ) → at + length xs ≤ length d → put d at xs ≡ take at d ++ xs ++ drop (at + length xs) d
 unfolding put
 put-fits d at xs h = simp (le-leb _ _ h)
@@ -38,7 +38,7 @@ module _ (d : List ℕ) (at : ℕ) (xs : List ℕ) where
       ∙ omega (arith, length-front h, length-drop (at + length xs) d))
       (λ e. ap length (put-no-room (leb-false _ _ e)))
 
-  -- what was written is read there
+  -- the elements that were written are read back
   pub getD-put : at + length xs ≤ length d → (k : ℕ) → k < length xs → getD (put d at xs) (at + k) 0 ≡ getD xs k 0
   getD-put h k l =
       let e : length (take at d) ≡ at = length-take-le at d (omega arith) in
@@ -47,7 +47,7 @@ module _ (d : List ℕ) (at : ℕ) (xs : List ℕ) where
       ∙ ap (λ (a : ℕ). getD (take at d ++ xs) (a + k) 0) (sym e)
       ∙ getD-append-add (take at d) xs k 0
 
-  -- what stands before it and after it is as it was
+  -- the elements before and after a written run are unchanged
   pub getD-put-before : (k : ℕ) → k < at → getD (put d at xs) k 0 ≡ getD d k 0
   getD-put-before k l =
       split (leb (at + length xs) (length d))
@@ -87,7 +87,7 @@ module _ (d : List ℕ) (at : ℕ) (xs : List ℕ) where
       put-fits (put d at xs) (at + length xs) ys (rw length-put h)
       ∙ rw (a, b) (sym (put-fits d at (xs ++ ys) m ∙ simp (length-append, append-assoc, add-assoc)))
 
--- two octets stored
+-- a number of two octets stored
 pub put-two : (d : List ℕ) (at x : ℕ) → x < 2 ^ 16 → at + 2 ≤ length d → set (set d at (x / 256)) (at + 1) (x % 256) ≡ put d at (octetsOf 2 x)
 unfolding octetsOf
 put-two d at x f h =
@@ -109,30 +109,30 @@ pub put-both : (w : ℕ) (d : List ℕ) (at x : ℕ) (e f : List ℕ) → at + (
     → e ≡ put d at (octetsOf w (x / 256 ^ w)) → f ≡ put e (at + w) (octetsOf w (x % 256 ^ w)) → f ≡ put d at (octetsOf (w + w) x)
 put-both w d at x e f h p q = q ∙ ap (λ (r : List ℕ). put r (at + w) (octetsOf w (x % 256 ^ w))) p ∙ put-halves w d at x h
 
--- where the test finds no room nothing is written
+-- where the test finds no room, nothing is written
 pub put-refused : (d : List ℕ) (at : ℕ) (xs : List ℕ) (r : Bool) (size : ℕ) → r ≡ leb (at + size) (length d) → length xs ≡ size → not r ≡ true → d ≡ put d at xs
 put-refused d at xs r size e l h =
     let k : length d < at + size = no-room (length d) at size r e h in
     sym (put-no-room d at xs (omega arith))
 
--- an element stored
+-- one element stored
 pub put-one : (d : List ℕ) (at x : ℕ) → at < length d → set d at x ≡ put d at (x ∷ [])
 put-one d at x h = sets-eq (x ∷ []) d at (omega arith) ∙ sym (put-fits d at (x ∷ []) (omega arith))
 
--- an element stored right after a run
+-- one element stored right after a run
 pub put-next : (d : List ℕ) (at : ℕ) (xs : List ℕ) (x : ℕ) → at + length xs < length d → set (put d at xs) (at + length xs) x ≡ put d at (xs ++ (x ∷ []))
 put-next d at xs x h =
     put-one (put d at xs) (at + length xs) x (rw (length-put d at xs) h)
     ∙ put-beside d at xs (x ∷ []) (omega arith)
 
--- a run of no octets
+-- a run of no octets written
 pub put-none : (d : List ℕ) (at : ℕ) → put d at [] ≡ d
 put-none d at =
     split (leb (at + 0) (length d))
     (λ e. put-fits d at [] (leb-true _ _ e) ∙ ap (λ (i : ℕ). take at d ++ [] ++ drop i d) (add-zero at) ∙ ap (λ (xs : List ℕ). xs ++ drop at d) (append-nil (take at d)) ∙ take-append-drop at d)
     (λ e. put-no-room d at [] (leb-false _ _ e))
 
--- a part written at its own offset again
+-- a part written again at its own offset
 pub put-own : (w : ℕ) (d : List ℕ) (at : ℕ) → put d at (octetsAt w d at) ≡ d
 put-own w d at =
     let xs : List ℕ = octetsAt w d at in
@@ -147,11 +147,11 @@ put-own w d at =
     ∙ take-append-drop (at + w) d)
     (λ e. let h : length d < at + w = leb-false _ _ e in put-no-room d at xs (omega arith))
 
--- a run as long as the one it was written into
+-- a run keeps its length when another run is written into it
 pub length-written : (d : List ℕ) (at : ℕ) (xs e : List ℕ) → e ≡ put d at xs → length e ≡ length d
 length-written d at xs e v = ap length v ∙ length-put d at xs
 
--- ---- a run written after another, at an offset that is known to be there
+-- ---- a run written after another, at an offset that is given
 pub put-after : (d : List ℕ) (at : ℕ) (xs ys : List ℕ) (p : ℕ) → p ≡ at + length xs → p + length ys ≤ length d → put (put d at xs) p ys ≡ put d at (xs ++ ys)
 put-after d at xs ys p e h =
     ap (λ (q : ℕ). put (put d at xs) q ys) e ∙ put-beside d at xs ys (rw e at h)

@@ -43,15 +43,15 @@ spelled-reads (p ∷ ps) before after f =
       subst (λ (r : List ℕ). Reads ps r (length before + p .octets)) s (subst (Reads ps (before ++ xs ++ spelled ps ++ after)) l rest),
     )
 
--- a value read at an offset that is written in another way
+-- a value read at an offset that is given in another form
 pub read-at : (w : ℕ) (s : List ℕ) {a b x : ℕ} → numberAt w s a ≡ x → a ≡ b → numberAt w s b ≡ x
 read-at w s e h = ap (numberAt w s) (sym h) ∙ e
 
--- and one octet of it
+-- a value of one octet, read as that octet
 pub octet-at : (s : List ℕ) {a b x : ℕ} → numberAt 1 s a ≡ x → a ≡ b → getD s b 0 ≡ x
 octet-at s {b = b} e h = sym (number-one s b) ∙ read-at 1 s e h
 
--- the length of parts that are spelled
+-- the length of spelled parts
 abbrev pub total : List Part → ℕ
 total [] = 0
 total (p ∷ ps) = p .octets + total ps

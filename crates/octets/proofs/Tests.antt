@@ -1,4 +1,4 @@
--- The test of room for octets in a run, and what it says. Other tests are those of lists. Assumes nothing.
+-- The test of room for octets in a run, and what the test says. Other tests are those of lists. Assumes nothing.
 use Prim.Native.Nat.{ℕ, _+_, _-_, _≤_, _<_}
 use mathlib.Core.Bool.{Bool, true, false, not}
 use mathlib.Core.Path.{_≡_, sym, _∙_}
@@ -16,7 +16,7 @@ module _ (len at size : ℕ) where
   pub room-left : size ≤ len → leb at (len - size) ≡ leb (at + size) len
   room-left h = leb-same at (len - size) (at + size) len (λ x. omega arith) (λ x. omega arith)
 
-  -- what its answer says
+  -- what the test's answer says
   module _ (r : Bool) (e : r ≡ leb (at + size) len) where
     pub fits : r ≡ true → at + size ≤ len
     fits h = leb-true _ _ (sym e ∙ h)
@@ -30,7 +30,7 @@ module _ (len at size : ℕ) where
     pub no-room : not r ≡ true → len < at + size
     no-room h = fits-not (not-true r h)
 
--- the same at a run's start
+-- the test of room at a run's start
 module _ (len size : ℕ) (r : Bool) (e : r ≡ leb (0 + size) len) where
   pub has-room-first : not r ≡ false → size ≤ len
   has-room-first h = rw (zero-add size) at (has-room len 0 size r e h)

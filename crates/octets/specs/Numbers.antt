@@ -1,5 +1,5 @@
--- Numbers spelled in octets, the high octet first, as document 01 has them ("What the box covers", byte order). One definition
--- serves every width.
+-- Numbers spelled in octets, the high octet first, as document 01 has numbers ("What the box covers", byte order). One
+-- definition serves every width.
 use Prim.Native.Nat.{ℕ, zero, suc, _+_, _*_, _/_, _%_}
 use mathlib.Core.List.{List, [], _∷_, _++_}
 use lib.ListN.{getD}

@@ -1,6 +1,6 @@
--- Runs of octets: a part of one, several one after the other, and one written into a longer run, which is what a write leaves in
--- the room that it is lent. Document 01 has no rule of its own for these; an octet past the end counts as 0, and a write that has
--- no room leaves everything as it was.
+-- Runs of octets: a part of a run, several runs one after the other, and a run written into a longer run, which is what
+-- a write leaves in lent room. Document 01 has no rule of its own for these; an octet past the end counts as 0, and a
+-- write without room leaves the run unchanged.
 use Prim.Native.Nat.{ℕ, zero, suc, _+_}
 use mathlib.Core.List.{List, [], _∷_, _++_}
 use lib.ListN.{length, getD, take, drop}
@@ -17,7 +17,7 @@ unfoldable pub joined : (ℕ → List ℕ) → ℕ → List ℕ
 joined f zero = []
 joined f (suc n) = joined f n ++ f n
 
--- d with xs from an offset on; d as it is where it has no room for the whole of xs there
+-- d with xs written from an offset on; d unchanged where it has no room for the whole of xs there
 unfoldable pub put : List ℕ → ℕ → List ℕ → List ℕ
 put d at xs =
     if leb (at + length xs) (length d)

@@ -1,12 +1,12 @@
 // Writing octets into lent runs: numbers of 2, 4 and 8 octets, the high octet first, and a part of one run copied into
-// another. Every function is total: what has no room is not written at all.
+// another run. Every function is total: what has no room is not written at all.
 ghost use mathlib.Core.Path.{_≡_};
 ghost use Prim.Native.Nat.{_+_, _≤_};
 ghost use lib.ListN.{length};
 ghost use Rattle.octets.specs.Numbers.{octetsOf};
 ghost use Rattle.octets.specs.Runs.{octetsAt, put};
 
-// The two octets of x written from an offset on.
+// Writes the two octets of x from an offset on.
 pub fn put_u16(to: &mut [u8], at: usize, x: u16)
     ensures { λ r. ⌜ now (to .exit) ≡ put (now (to .entry)) at (octetsOf 2 x) ⌝ }
 {
@@ -17,7 +17,7 @@ pub fn put_u16(to: &mut [u8], at: usize, x: u16)
     to[at + 1] = (x % 256) as u8;
 }
 
-// The four octets of x written from an offset on.
+// Writes the four octets of x from an offset on.
 pub fn put_u32(to: &mut [u8], at: usize, x: u32)
     ensures { λ r. ⌜ now (to .exit) ≡ put (now (to .entry)) at (octetsOf 4 x) ⌝ }
 {
@@ -28,7 +28,7 @@ pub fn put_u32(to: &mut [u8], at: usize, x: u32)
     put_u16(to, at + 2, (x % 65536) as u16);
 }
 
-// The eight octets of x written from an offset on.
+// Writes the eight octets of x from an offset on.
 pub fn put_u64(to: &mut [u8], at: usize, x: u64)
     ensures { λ r. ⌜ now (to .exit) ≡ put (now (to .entry)) at (octetsOf 8 x) ⌝ }
 {
@@ -39,7 +39,7 @@ pub fn put_u64(to: &mut [u8], at: usize, x: u64)
     put_u32(to, at + 4, (x % 4294967296) as u32);
 }
 
-// Octets that are all there copied to an offset that has room for them: no test for each octet.
+// Copies octets that are all inside the run to an offset with room for them, with no test for each octet.
 fn copy_whole(from: &[u8], at: usize, size: usize, to: &mut [u8], offset: usize)
     requires { ⌜ at + size ≤ length (now from) ⌝ ∗ ⌜ offset + size ≤ length (now to) ⌝ }
     ensures { λ r. ⌜ now (to .exit) ≡ put (now (to .entry)) offset (octetsAt size (now (from .entry)) at) ⌝ }
@@ -51,7 +51,7 @@ fn copy_whole(from: &[u8], at: usize, size: usize, to: &mut [u8], offset: usize)
     }
 }
 
-// Octets of which some are past the end, and so 0, copied to such an offset.
+// Copies octets of which some are past the end, and so 0, to an offset with room for them.
 fn copy_padded(from: &[u8], at: usize, size: usize, to: &mut [u8], offset: usize)
     requires { ⌜ offset + size ≤ length (now to) ⌝ }
     ensures { λ r. ⌜ now (to .exit) ≡ put (now (to .entry)) offset (octetsAt size (now (from .entry)) at) ⌝ }
@@ -64,7 +64,8 @@ fn copy_padded(from: &[u8], at: usize, size: usize, to: &mut [u8], offset: usize
     }
 }
 
-// A part of a run copied to an offset in another: `size` octets from `at` on.
+// Copies `size` octets of a run from `at` on to an offset in another run; read directly if complete, otherwise
+// zero-padded.
 pub fn copy(from: &[u8], at: usize, size: usize, to: &mut [u8], offset: usize)
     ensures { λ r. ⌜ now (to .exit) ≡ put (now (to .entry)) offset (octetsAt size (now (from .entry)) at) ⌝ }
 {

@@ -1,4 +1,4 @@
--- Laws of the answer from the words of a link's memory, and of what it leaves. Assumes nothing.
+-- Laws of the answer from the words of a link's memory, and of what the answer leaves. Assumes nothing.
 use Prim.Native.Nat.{ℕ, _+_, _*_, _≤_, _<_}
 use mathlib.Core.Bool.{Bool, true, false, not, false≢true}
 use mathlib.Core.List.{List}
@@ -20,7 +20,7 @@ use Rattle.receive_answer.specs.Answer.{other, deliveryOf, taken, receptionBy}
 use Rattle.receive.specs.Receive.{memoryAfter, Received, receivedOf, answerBy, onMemory, onRow, received}
 use Rattle.receive.proofs.Words.{row-in-run, memory-in-run}
 
--- from the words that are read for it
+-- the answer from the words that the code reads
 module _ (skew : ℕ) (r : List ℕ) (j : ℕ) (f : Arrival) where
   pub answer-read : (o : Network) → o ≡ other (f .network)
       → (k : ℕ) → k ≡ awaitingWord o (f .number)
@@ -43,7 +43,7 @@ module _ (skew : ℕ) (r : List ℕ) (j : ℕ) (f : Arrival) where
       ∙ ap (λ (x : ℕ). receptionBy skew (word r j timeWord) (numberOf x) (deliveryOf waits d) (f .number) (f .time)) h
       ∙ ap₂ (λ (x y : ℕ). receptionBy skew (word r j timeWord) (numberOf (word r j (numberWord (f .network)))) (deliveryOf x y) (f .number) (f .time)) w v
 
--- ---- what is left
+-- ---- what an answer leaves
 pub refused-leaves : (r : List ℕ) (j : ℕ) (f : Arrival) (a : Reception) → taken a ≡ false → memoryAfter r j f a ≡ r
 refused-leaves r j f UnknownLink e = refl
 refused-leaves r j f Late e = refl
@@ -111,7 +111,7 @@ by-row rows r f P nowhere at = cases (rowFound rows (length r) (f .link)) refl
     cases Nowhere e = rw e (nowhere e)
     cases (At j) e = rw e (at j e)
 
--- as the code finds it
+-- the call by the row that the code finds
 module _ (rows r : List ℕ) (f : Arrival) (d : Found) (g : d ≡ foundIn (tableOf skewRowOctets rows) (rowsInUse (length rows) (length r)) (f .link)) where
   row-is : d ≡ rowFound rows (length r) (f .link)
   unfolding rowFound

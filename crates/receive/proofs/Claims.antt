@@ -1,4 +1,4 @@
--- What holds of one call, by the row found and the answer. Assumes nothing.
+-- What holds of one call, case by case of the row found and of the answer. Assumes nothing.
 use Prim.Native.Nat.{ℕ, _+_, _*_, _≤_, _<_}
 use mathlib.Core.Bool.{false}
 use mathlib.Core.List.{List}
@@ -90,7 +90,7 @@ rows-beyond rows words rows′ words′ link n same =
     (λ j h. number-in rows j ∙ same j h ∙ sym (number-in rows′ j))
     ∙ ap (λ (m : ℕ). foundIn (tableOf skewRowOctets rows′) m link) n
 
--- ---- the answer, by what its memory says
+-- ---- the answer, from what the memory says
 pub answers-by-memory : AnswersByMemory
 unfolding answerBy
 answers-by-memory rows r f j e =
@@ -104,12 +104,12 @@ later-delivery-is-none rows r f j e h p d q l =
     ∙ ap (λ (o : Option ℕ). receptionBy (skewIn rows j) (latestTime r j) (lastNumber r j (f .network)) o (f .number) (f .time)) q
     ∙ later-counts-as-none (skewIn rows j) (latestTime r j) (lastNumber r j (f .network)) d (f .number) (f .time) h p l
 
--- its memory is lent whole
+-- the memory of a row that is found is lent whole
 pub memory-whole : (rows : List ℕ) (words link j : ℕ) → rowFound rows words link ≡ At j → memoryWords * j + memoryWords ≤ words
 memory-whole rows words link j e =
     memory-in-run (length rows) words _ refl j (row-is-first rows words link j e .0)
 
--- ---- the memories left
+-- ---- the memories after a call
 pub only-memory : (r : List ℕ) (j : ℕ) (f : Arrival) (a : Reception) → f .number < numberCount → OnlyMemory j r (memoryAfter r j f a)
 only-memory r j f a h =
     stored-left (λ s t. OnlyMemory j r s) j j

@@ -1,4 +1,4 @@
--- Laws of what an answer leaves: what a memory then says. Assumes nothing.
+-- Laws of what a memory says after an answer was stored. Assumes nothing.
 use Prim.Native.Nat.{ℕ, _+_, _*_, _≤_, _<_}
 use mathlib.Core.List.{List}
 use mathlib.Core.Option.{none, some}
@@ -18,7 +18,7 @@ use Rattle.receive_sequence.proofs.Passing.{number-some}
 use Rattle.receive_answer.proofs.Answer.{delivery-none, delivery-some}
 use Rattle.receive.proofs.Words.{index-low, number-inside, awaiting-inside, delivered-inside, length-store, word-same, word-other, word-beside}
 
--- ---- whatever every store inside a memory keeps, an answer keeps; of two memories at once
+-- ---- a property that every store inside a memory keeps is kept by an answer; of two memories at once
 module _ (P : List ℕ → List ℕ → Type 0) (j i : ℕ)
     (step : (s t : List ℕ) (k v : ℕ) → k < memoryWords → P s t → P (store s j k v) (store t i k v)) where
   kept-noted : (r s : List ℕ) (f : Arrival) → P r s → P (noted r j f) (noted s i f)
@@ -81,7 +81,7 @@ module _ (r : List ℕ) (j : ℕ) (h : memoryWords * j + memoryWords ≤ length 
       (noted-elsewhere (awaitingWord x n) (λ e. omega arith) (λ e. omega arith))
       (noted-elsewhere (deliveredWord x n) (λ e. omega arith) (λ e. omega arith))
 
--- ---- once a delivery has met its copy
+-- ---- what the memory says once a delivery has met its copy
 module _ (r : List ℕ) (j : ℕ) (x : Network) (n : ℕ) where
   pub met-elsewhere : (k : ℕ) → (k ≡ awaitingWord x n → ⊥) → word (met r j x n) j k ≡ word r j k
   unfolding met
@@ -100,7 +100,7 @@ module _ (r : List ℕ) (j : ℕ) (x : Network) (n : ℕ) where
   pub met-other : (y : Network) (m : ℕ) → (awaitingWord y m ≡ awaitingWord x n → ⊥) → awaiting (met r j x n) j y m ≡ awaiting r j y m
   met-other y m d = ap₂ deliveryOf (met-elsewhere (awaitingWord y m) d) (met-elsewhere (deliveredWord y m) (λ e. omega arith))
 
--- ---- once a delivery awaits its copy
+-- ---- what the memory says once a delivery awaits its copy
 module _ (r : List ℕ) (j : ℕ) (f : Arrival) where
   pub delivered-elsewhere : (k : ℕ) → (k ≡ awaitingWord (f .network) (f .number) → ⊥) → (k ≡ deliveredWord (f .network) (f .number) → ⊥)
       → word (delivered r j f) j k ≡ word r j k

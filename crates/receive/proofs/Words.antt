@@ -38,7 +38,7 @@ pub length-store : (r : List ℕ) (j k v : ℕ) → length (store r j k v) ≡ l
 unfolding store
 length-store r j k v = length-set r (memoryWords * j + k) v
 
--- ---- rows in use: so many lie in both runs
+-- ---- rows in use lie in both runs
 module _ (octets words n : ℕ) (e : n ≡ rowsInUse octets words) where
   pub row-in-run : (j : ℕ) → j < n → skewRowOctets * j + skewRowOctets ≤ octets
   unfolding rowsInUse
@@ -48,7 +48,8 @@ module _ (octets words n : ℕ) (e : n ≡ rowsInUse octets words) where
   unfolding rowsInUse
   memory-in-run j h = omega arith
 
--- ---- a word read where another was stored. In the same memory
+-- ---- a word read after another was stored
+-- in the same memory
 pub word-same : (r : List ℕ) (j k v : ℕ) → memoryWords * j + memoryWords ≤ length r → k < memoryWords → word (store r j k v) j k ≡ v
 unfolding word store
 word-same r j k v h l = getD-set-same r (memoryWords * j + k) v 0 (omega arith)
@@ -62,7 +63,7 @@ pub word-beside : (r : List ℕ) (j k i m v : ℕ) → (i ≡ j → ⊥) → k <
 unfolding word store
 word-beside r j k i m v d h l = getD-set-other r (memoryWords * j + k) (memoryWords * i + m) v 0 (λ e. d (omega arith))
 
--- outside the memory
+-- a word outside the memory
 pub outside-before : (r : List ℕ) (j k i v : ℕ) → i < memoryWords * j → getD (store r j k v) i 0 ≡ getD r i 0
 unfolding store
 outside-before r j k i v h = getD-set-other r (memoryWords * j + k) i v 0 (λ e. omega arith)

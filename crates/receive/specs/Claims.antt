@@ -18,7 +18,7 @@ use Rattle.receive.specs.Lent.{skewRowOctets, skewIn, memoryWords, rowsI
 use Rattle.receive.specs.Lent.{latestTime, lastNumber, awaiting}
 use Rattle.receive.specs.Receive.{received}
 
--- demand 1: delivered, copy, out of sequence, 4 and 8, and no other
+-- demand 1: the answers are delivered, copy, out of sequence, 4 and 8, and no other
 abbrev pub PossibleAnswers : Type 0
 PossibleAnswers = (rows r : List ℕ) (f : Arrival) → List·Memᴰ (receptionCode (received rows r f .says)) (0 ∷ 30 ∷ 31 ∷ 4 ∷ 8 ∷ [])
 
@@ -28,11 +28,12 @@ RefusedKeeps =
     (rows r : List ℕ) (f : Arrival) → (receptionCode (received rows r f .says) ≡ 4) ⊎ (receptionCode (received rows r f .says) ≡ 8)
     → received rows r f .memory ≡ r
 
--- 4 first: exactly where no row in use has the link's number
+-- code 4 comes first: exactly where no row in use has the link's number
 abbrev pub UnknownExactly : Type 0
 UnknownExactly = (rows r : List ℕ) (f : Arrival) → (received rows r f .says ≡ UnknownLink) ↔ (rowFound rows (length r) (f .link) ≡ Nowhere)
 
--- a row that is found is in use, has the number, and is the first that has it; where none is found, no row in use has it
+-- a row that is found is in use, has the number, and is the first that has the number; where no row is found, no row in
+-- use has the number
 abbrev pub RowIsFirst : Type 0
 RowIsFirst =
     (rows : List ℕ) (words link j : ℕ) → rowFound rows words link ≡ At j
@@ -52,7 +53,7 @@ SkewRowsBeyondUnread =
     → ((j : ℕ) → j < rowsInUse (length rows) words → numberAt 2 rows (skewRowOctets * j) ≡ numberAt 2 rows′ (skewRowOctets * j))
     → rowFound rows words link ≡ rowFound rows′ words′ link
 
--- ---- of a call whose link has row j: its answer exactly, by what memory j says, whatever that is
+-- ---- of a call whose link has row j: the answer exactly, by what memory j says
 abbrev pub AnswersByMemory : Type 0
 AnswersByMemory =
     (rows r : List ℕ) (f : Arrival) (j : ℕ) → rowFound rows (length r) (f .link) ≡ At j
@@ -78,13 +79,14 @@ ChangesOwnMemory =
     (rows r : List ℕ) (f : Arrival) → f .number < numberCount → (j : ℕ) → rowFound rows (length r) (f .link) ≡ At j
     → OnlyMemory j r (received rows r f .memory)
 
--- any answer but the refusals, out of sequence too, stores the time, for both networks, and the number, for its own
+-- any answer but the refusals, out of sequence too, stores the frame's time, for both networks, and the frame's number,
+-- for its own network
 abbrev pub TimeAndNumberStored : Type 0
 TimeAndNumberStored =
     (rows r : List ℕ) (f : Arrival) (j : ℕ) → rowFound rows (length r) (f .link) ≡ At j → (received rows r f .says ≡ Late → ⊥)
     → (latestTime (received rows r f .memory) j ≡ f .time) × (lastNumber (received rows r f .memory) j (f .network) ≡ some (f .number))
 
--- nothing but the link's SkewMax and its memory plays a part
+-- a call depends on nothing but the link's SkewMax and the link's memory
 abbrev pub SameMemory : List ℕ → ℕ → List ℕ → ℕ → Type 0
 SameMemory r j s i = (k : ℕ) → k < memoryWords → word r j k ≡ word s i k
 

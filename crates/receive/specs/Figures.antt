@@ -19,14 +19,15 @@ use Rattle.receive.specs.Lent.{timeWord, numberWord, awaitingWord, deliv
 abbrev pub threeRows : List ℕ
 threeRows = 1 ∷ 2 ∷ 3 ∷ 4 ∷ 5 ∷ 6 ∷ 7 ∷ 8 ∷ 9 ∷ 10 ∷ 11 ∷ 12 ∷ 1 ∷ 2 ∷ 13 ∷ 14 ∷ 15 ∷ 16 ∷ []
 
--- their SkewMax; the rows that are found with three memories, the first of two with one number; 515 stands at
--- another offset, 3 nowhere
+-- the SkewMax of the three rows; the rows that are found with three memories, the first of two with one number; 515
+-- stands at another offset, 3 nowhere
 abbrev pub SkewRowFigures : Type 0
 SkewRowFigures =
     (map (skewIn threeRows) (0 ∷ 1 ∷ 2 ∷ []) ≡ 50595078 ∷ 151653132 ∷ 219025168 ∷ [])
     × (map (rowFound threeRows 3081) (258 ∷ 1800 ∷ 515 ∷ 3 ∷ []) ≡ At 0 ∷ At 1 ∷ Nowhere ∷ Nowhere ∷ [])
 
--- row j spelled from any values reads back as these, whatever stands before and after it: number (2), SkewMax (4)
+-- row j spelled from any values reads back as these values, whatever stands before and after it: number (2), SkewMax
+-- (4)
 abbrev pub skewParts : ℕ → ℕ → List Part
 skewParts number skew = part 2 number ∷ part 4 skew ∷ []
 
@@ -36,14 +37,15 @@ SkewRowReads =
     → (numberAt 2 (before ++ spelled (skewParts number skew) ++ after) (6 * j) ≡ number)
     × (skewIn (before ++ spelled (skewParts number skew) ++ after) j ≡ skew)
 
--- ---- rows in use: row j exactly where its 6 octets and the 1,027 words of its memory are lent
+-- ---- row j is in use exactly where its 6 octets and the 1,027 words of its memory are lent
 pub record RowsInUseExactly : Type 0 where
   pub row : (octets words j : ℕ) → (j < rowsInUse octets words) ↔ ((6 * j + 6 ≤ octets) × (1027 * j + 1027 ≤ words))
   pub whole : (n : ℕ) → rowsInUse (6 * n) (1027 * n) ≡ n
   pub word-short : (n : ℕ) → rowsInUse (6 * n + 6) (1027 * n + 1026) ≡ n
   pub octet-short : (n : ℕ) → rowsInUse (6 * n + 5) (1027 * n + 1027) ≡ n
 
--- ---- a memory: its words, by network and for numbers 0 and 255; what a word of a last number and those of a delivery say
+-- ---- a memory in figures: its words, by network and for numbers 0 and 255; what the word of a last number and the
+-- words of a delivery say
 abbrev pub MemoryFigures : Type 0
 MemoryFigures =
     (skewRowOctets ≡ 6) × (memoryWords ≡ 1027) × (timeWord ≡ 0) × (map numberWord (A ∷ B ∷ []) ≡ 1 ∷ 2 ∷ [])

@@ -1,5 +1,5 @@
--- What a receiving end is lent (document 02, Q-1): a row for each link and, in a run of their own, a memory for each row in
--- use. The papers leave their form open; it is stated here.
+-- What a receiving end is lent (document 02, Q-1): a row for each link and, in a run of words, a memory for each row in
+-- use. The papers leave the form of rows and memories open; this file states it.
 use Prim.Native.Nat.{ℕ, _+_, _*_, _/_}
 use mathlib.Core.List.{List}
 use mathlib.Core.Option.{Option}
@@ -25,16 +25,16 @@ skewRowOctets = 6
 unfoldable pub skewIn : List ℕ → ℕ → ℕ
 skewIn rows j = numberAt 4 rows (skewRowOctets * j + 2)
 
--- a memory, which is document 02's record, in words of 64 bits: the link's last time, the last number on each network, and for
--- each network and number two words, for the delivery that may await its copy; 3 + 2 × 256 × 2
+-- words of a memory, which is document 02's record; a word has 64 bits: the link's last time, the last number on each
+-- network, and for each network and number two words, for the delivery that may await its copy; 3 + 2 × 256 × 2
 abbrev pub memoryWords : ℕ
 memoryWords = 1027
 
--- rows in use: those of which row and memory are lent whole
+-- rows in use: rows that are lent whole with their memory
 unfoldable pub rowsInUse : ℕ → ℕ → ℕ
 rowsInUse octets words = inUse skewRowOctets octets (words / memoryWords)
 
--- the row of a link: the first in use with its number
+-- the row of a link: the first row in use with the link's number
 unfoldable pub rowFound : List ℕ → ℕ → ℕ → Found
 rowFound rows words link = foundIn (tableOf skewRowOctets rows) (rowsInUse (length rows) words) link
 
@@ -45,8 +45,8 @@ word r j k = getD r (memoryWords * j + k) 0
 unfoldable pub store : List ℕ → ℕ → ℕ → ℕ → List ℕ
 store r j k v = set r (memoryWords * j + k) v
 
--- ---- the indices of a memory's words: the last time; the last number on a network; whether the delivery of n on a network
--- awaits its copy, and its time. All words are 0 in an empty memory
+-- ---- the indices of a memory's words: the last time; the last number on a network; whether the delivery of n on a
+-- network awaits its copy; that delivery's time. All words of an empty memory are 0
 abbrev pub timeWord : ℕ
 timeWord = 0
 
@@ -70,7 +70,8 @@ lastNumber r j x = numberOf (word r j (numberWord x))
 abbrev pub awaiting : List ℕ → ℕ → Network → ℕ → Option ℕ
 awaiting r j x n = deliveryOf (word r j (awaitingWord x n)) (word r j (deliveredWord x n))
 
--- ---- what is stored in it: time and number of a frame; that a delivery has met its copy; that a frame was delivered
+-- ---- what is stored in a memory: time and number of a frame; that a delivery has met its copy; that a frame was
+-- delivered
 unfoldable pub noted : List ℕ → ℕ → Arrival → List ℕ
 noted r j f = store (store r j timeWord (f .time)) j (numberWord (f .network)) (f .number + 1)
 

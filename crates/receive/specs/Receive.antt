@@ -1,5 +1,5 @@
--- The receiving end's call (document 02, Q-1): what it answers and the memories that it leaves, for any rows and memories
--- whatsoever.
+-- The receiving end's call (document 02, Q-1): what the call answers and the memories that it leaves, for any rows and
+-- memories whatsoever.
 use Prim.Native.Nat.{ℕ}
 use mathlib.Core.List.{List}
 use lib.ListN.{length}
@@ -11,8 +11,8 @@ use Rattle.receive_answer.specs.declared.Reception.the-variants.{Delivered, Cop
 use Rattle.receive.specs.Lent.{skewIn, rowFound, latestTime, lastNumber, awaiting, noted, met, delivered}
 use Rattle.receive_answer.specs.Answer.{receptionBy, other}
 
--- ---- what an answer leaves in memory j: the two refusals nothing; any other stores the number and the time; after
--- a copy the delivery that it belongs to has met it, and a delivery awaits its copy
+-- ---- what an answer leaves in memory j: the two refusals leave it unchanged; any other answer stores the number and
+-- the time; after a copy the delivery of the copy has met it, and a delivery awaits its copy
 abbrev pub memoryAfter : List ℕ → ℕ → Arrival → Reception → List ℕ
 memoryAfter r j f UnknownLink = r
 memoryAfter r j f Late = r
@@ -22,7 +22,7 @@ memoryAfter r j f Delivered = delivered (noted r j f) j f
 
 -- ---- the call
 
--- what it answers, and the memories that it leaves
+-- the answer of a call, and the memories after the call
 pub record Received : Type 0 where
   pub says : Reception
   pub memory : List ℕ
@@ -38,7 +38,7 @@ answerBy skew r j f =
 abbrev pub onMemory : ℕ → List ℕ → ℕ → Arrival → Received
 onMemory skew r j f = receivedOf (answerBy skew r j f) (memoryAfter r j f (answerBy skew r j f))
 
--- what is answered and left, by the row found: 4 where there is none
+-- the answer and the memories after the call, by the row found: 4 where no row is found
 abbrev pub onRow : List ℕ → List ℕ → Arrival → Found → Received
 onRow rows r f Nowhere = receivedOf UnknownLink r
 onRow rows r f (At j) = onMemory (skewIn rows j) r j f

@@ -1,5 +1,5 @@
-// The receiving end of a link on two networks: integrity by sequence number on each, then the first of two copies
-// delivered. Links come as rows and what is remembered of each as a memory, both lent. The call is total.
+// The receiving end of a link on two networks: integrity by sequence number on each network, then the first of two
+// copies delivered. Links are lent as rows, and what is remembered of each link as a memory. The call is total.
 ghost use mathlib.Core.Path.{_≡_};
 ghost use Prim.Native.Nat.{_+_, _*_, _≤_};
 ghost use lib.ListN.{length};
@@ -18,10 +18,10 @@ const SKEW_OCTETS: u8 = 4;
 
 pub const ROW_OCTETS: usize = rows::NUMBER_OCTETS + SKEW_OCTETS as usize;
 
-// Words of a memory; all are 0 where it is empty.
+// Words of a memory; all words of an empty memory are 0.
 pub const MEMORY_WORDS: usize = 1027;
 
-// What a frame is answered, by the memory of its link's row.
+// The answer to a frame, by the memory of its link's row.
 fn answer_by(skew: u32, memory: &[u64], row: usize, frame: Arrival) -> Reception
     requires { ⌜ memoryWords * row + memoryWords ≤ length (now memory) ⌝ }
     ensures { λ r. ⌜ r ≡ answerBy skew (now (memory .entry)) row frame ⌝ }
@@ -36,8 +36,8 @@ fn answer_by(skew: u32, memory: &[u64], row: usize, frame: Arrival) -> Reception
     receive_answer::reception_by(skew, last, held, waits, delivered, frame.number, frame.time)
 }
 
-// A frame that comes in: its answer, with what that leaves stored in its link's memory. Any rows and memories get an
-// answer; those beyond the rows in use are neither read nor written.
+// Receives a frame: returns the answer, and stores what the answer leaves in the memory of the frame's link. Any rows
+// and memories get an answer; rows and memories beyond those in use are neither read nor written.
 pub fn receive(frame: Arrival, rows: &[u8], memory: &mut [u64]) -> Reception
     ensures { λ r. ⌜ receivedOf r (now (memory .exit)) ≡ received (now (rows .entry)) (now (memory .entry)) frame ⌝ }
 {

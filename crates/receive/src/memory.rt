@@ -1,5 +1,5 @@
-// The memories, one after the other in one run of words: where a word stands, reading it, and what an answer leaves.
-// A row's memory is lent whole wherever one is read or changed.
+// The memories, one after the other in one run of words: the index of a word, reading a word, and storing what an
+// answer leaves. A row's memory is lent whole wherever a word is read or stored.
 ghost use mathlib.Core.Path.{_≡_};
 ghost use Prim.Native.Nat.{_+_, _*_, _≤_, _<_};
 ghost use lib.ListN.{length};
@@ -29,8 +29,8 @@ pub(crate) fn number_word(network: Network) -> usize
     1 + index(network)
 }
 
-// The index of the word that says whether the delivery of a number on a network awaits its copy; its time is in the next
-// word. Two words a number, 256 numbers a network, after the time and the two last numbers.
+// The index of the word that says whether the delivery of a number on a network awaits its copy; the delivery's time is
+// in the next word. Two words a number, 256 numbers a network, after the time and the two last numbers.
 pub(crate) fn awaiting_word(network: Network, number: u8) -> usize
     ensures { λ r. ⌜ r ≡ awaitingWord network number ⌝ }
 {
@@ -51,7 +51,7 @@ fn store(memory: &mut [u64], row: usize, at: usize, value: u64)
     memory[MEMORY_WORDS * row + at] = value;
 }
 
-// A frame's time and number.
+// Stores a frame's time and number.
 fn note(memory: &mut [u64], row: usize, frame: Arrival)
     requires { ⌜ memoryWords * row + memoryWords ≤ length (now memory) ⌝ }
     ensures { λ r. ⌜ now (memory .exit) ≡ noted (now (memory .entry)) row frame ⌝ }
@@ -62,7 +62,7 @@ fn note(memory: &mut [u64], row: usize, frame: Arrival)
     store(memory, row, number_word(network), held);
 }
 
-// A delivery that has met its copy.
+// Stores that a delivery has met its copy.
 fn meet(memory: &mut [u64], row: usize, network: Network, number: u8)
     requires { ⌜ memoryWords * row + memoryWords ≤ length (now memory) ⌝ }
     ensures { λ r. ⌜ now (memory .exit) ≡ met (now (memory .entry)) row network number ⌝ }
@@ -70,7 +70,7 @@ fn meet(memory: &mut [u64], row: usize, network: Network, number: u8)
     store(memory, row, awaiting_word(network, number), 0);
 }
 
-// A delivery that awaits its copy.
+// Stores a delivery that awaits its copy.
 fn await_copy(memory: &mut [u64], row: usize, frame: Arrival)
     requires { ⌜ memoryWords * row + memoryWords ≤ length (now memory) ⌝ }
     ensures { λ r. ⌜ now (memory .exit) ≡ delivered (now (memory .entry)) row frame ⌝ }
@@ -81,7 +81,7 @@ fn await_copy(memory: &mut [u64], row: usize, frame: Arrival)
     store(memory, row, at + 1, frame.time);
 }
 
-// What an answer leaves.
+// Stores what an answer leaves.
 pub(crate) fn store_answer(memory: &mut [u64], row: usize, frame: Arrival, answer: Reception)
     requires { ⌜ memoryWords * row + memoryWords ≤ length (now memory) ⌝ }
     ensures { λ r. ⌜ now (memory .exit) ≡ memoryAfter (now (memory .entry)) row frame answer ⌝ }

@@ -1,4 +1,4 @@
--- Laws of what is answered, by cases of its definition. Assumes nothing.
+-- Laws of what is answered, case by case. Assumes nothing.
 use Prim.Native.Nat.{ℕ, _-_, _≤_, _<_}
 use mathlib.Core.Bool.{Bool, true, false, not}
 use mathlib.Core.Option.{Option, none, some}
@@ -11,7 +11,7 @@ use Rattle.receive_answer.specs.Answer.{deliveryOf, inSkew, receptionBy}
 use Rattle.receive_answer.specs.declared.Reception.{Reception}
 use Rattle.receive_answer.specs.declared.Reception.the-variants.{Delivered, Copy, OutOfSequence, Late}
 
--- ---- a delivery by its two words
+-- ---- a delivery, from its two words
 pub delivery-none : (w d : ℕ) → w ≡ 0 → deliveryOf w d ≡ none
 unfolding deliveryOf
 delivery-none w d e = simp (eq-eqb _ _ e)
@@ -56,7 +56,7 @@ module _ (skew time : ℕ) (number delivery : Option ℕ) (n t : ℕ) where
       unfolding receptionBy
       reception-delivered z = simp (le-ltb _ _ h, sym e ∙ not-false p q, sym f ∙ z)
 
--- by cases of it
+-- case analysis of the answer
 pub by-reception : (skew time : ℕ) (number delivery : Option ℕ) (n t : ℕ) (P : Reception → Type 0)
     → (t < time → P Late)
     → (time ≤ t → passes number n ≡ false → P OutOfSequence)

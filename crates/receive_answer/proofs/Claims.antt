@@ -1,4 +1,4 @@
--- The numbers of the answers, and the rule by its cases. Assumes nothing.
+-- The numbers of the answers, and the rule case by case. Assumes nothing.
 use Prim.Native.Nat.{ℕ, _-_, _≤_, _<_}
 use mathlib.Core.Bool.{true, false, _&&_, false≢true}
 use mathlib.Core.List.{[], _∷_, List·Memᴰ, List·Memᴰ·head, List·Memᴰ·tail}
@@ -40,7 +40,7 @@ heard-reported Late = refl
 pub answers-apart : AnswersApart
 answers-apart a b e = sym (heard-reported a) ∙ ap heard e ∙ heard-reported b
 
--- the numbers that there are
+-- the numbers that an answer can have
 pub possible : (a : Reception) → List·Memᴰ (receptionCode a) (0 ∷ 30 ∷ 31 ∷ 4 ∷ 8 ∷ [])
 possible Delivered = List·Memᴰ·head refl
 possible Copy = List·Memᴰ·tail (List·Memᴰ·head refl)
@@ -53,7 +53,7 @@ pub answers-in-figures : AnswersInFigures
 unfolding receptionBy inSkew passes
 answers-in-figures = refl
 
--- a delivery that awaits the frame, by its test
+-- a delivery awaits the frame exactly where the test says so
 pub awaits-copy : (skew : ℕ) (o : Option ℕ) (t : ℕ) → inSkew skew o t ≡ true → AwaitsCopy skew o t
 unfolding inSkew
 awaits-copy skew none t e = absurd (false≢true e)
@@ -68,7 +68,7 @@ in-skew-at skew d t h l = ap₂ _&&_ (le-leb _ _ h) (le-leb _ _ l)
 pub copy-awaited : (skew : ℕ) (o : Option ℕ) (t : ℕ) → AwaitsCopy skew o t → inSkew skew o t ≡ true
 copy-awaited skew o t w = ap (λ (x : Option ℕ). inSkew skew x t) (w .awaits) ∙ in-skew-at skew (w .time) t (w .not-after) (w .in-skew)
 
--- answers apart, without their numbers
+-- an index for each answer, independent of its number
 abbrev place : Reception → ℕ
 place Delivered = 0
 place Copy = 1

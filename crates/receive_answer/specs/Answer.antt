@@ -1,4 +1,4 @@
--- The receiving end's answers (document 02, Q-1): what a frame is answered, from what its link remembers.
+-- The receiving end's answers (document 02, Q-1): what a frame is answered, from what the frame's link remembers.
 use Prim.Native.Nat.{ℕ, _-_}
 use mathlib.Core.Bool.{Bool, true, false, not, _&&_}
 use mathlib.Core.Option.{Option, none, some}
@@ -16,7 +16,7 @@ abbrev pub other : Network → Network
 other A = B
 other B = A
 
--- a frame that comes in: its link, its network, its sequence number, its time in us, which is document 02's stamp
+-- a frame that comes in: its link, network, sequence number, and time in us, which is document 02's stamp
 abbrev pub arrivalOf : ℕ → Network → ℕ → ℕ → Arrival
 arrivalOf link x n t = record { link = link; network = x; number = n; time = t }
 
@@ -28,7 +28,7 @@ receptionCode Late = Codes.late
 receptionCode Copy = Codes.copy
 receptionCode OutOfSequence = Codes.outOfSequence
 
--- whether a frame was received: all answers but the refusals
+-- whether the frame was received: true for all answers but the refusals
 abbrev pub taken : Reception → Bool
 taken Delivered = true
 taken Copy = true
@@ -36,14 +36,16 @@ taken OutOfSequence = true
 taken UnknownLink = false
 taken Late = false
 
--- a delivery that awaits its copy has its first word other than 0; the second is its time
+-- the time of a delivery that awaits its copy, from two words: the first is 0 where no delivery does, the second is the
+-- time
 unfoldable pub deliveryOf : ℕ → ℕ → Option ℕ
 deliveryOf waits time = if eqb waits 0 then none else some time
 
--- ---- the rule, for a frame of number n with time t on a link with this SkewMax: from the link's last time, the last number
--- received on the frame's network, and the time of the other network's latest delivery of n, if that awaits its copy
+-- ---- the rule, for a frame of number n with time t on a link with this SkewMax: from the link's last time, the last
+-- number received on the frame's network, and the time of the other network's latest delivery of n, if that delivery
+-- awaits its copy
 
--- whether that delivery is no more than SkewMax old; one timed after the frame counts as none
+-- whether that delivery is no more than SkewMax old; a delivery timed after the frame counts as none
 unfoldable pub inSkew : ℕ → Option ℕ → ℕ → Bool
 inSkew skew none t = false
 inSkew skew (some d) t = leb d t && leb (t - d) skew

@@ -18,7 +18,7 @@ AnswersApart = (a b : Reception) → receptionCode a ≡ receptionCode b → a �
 abbrev pub ReceptionNumbers : Type 0
 ReceptionNumbers = map receptionCode (Delivered ∷ Copy ∷ OutOfSequence ∷ UnknownLink ∷ Late ∷ []) ≡ 0 ∷ 30 ∷ 31 ∷ 4 ∷ 8 ∷ []
 
--- ---- the rule, of a frame of number n with time t, whatever its link remembers
+-- ---- the rule, for a frame of number n with time t, whatever the frame's link remembers
 
 -- the other network's delivery of n awaits its copy, is not timed after the frame, and is no more than SkewMax old
 pub record AwaitsCopy (skew : ℕ) (delivery : Option ℕ) (t : ℕ) : Type 0 where
@@ -27,8 +27,8 @@ pub record AwaitsCopy (skew : ℕ) (delivery : Option ℕ) (t : ℕ) : Type 0 wh
   pub not-after : time ≤ t
   pub in-skew : t - time ≤ skew
 
--- 8 exactly for a time before the link's last; then out of sequence exactly where the number doesn't pass; then a copy exactly
--- where such a delivery awaits it, else delivered
+-- the answer: 8 exactly for a time before the link's last; then out of sequence exactly where the number doesn't pass;
+-- then a copy exactly where such a delivery awaits it, else delivered
 pub record AnsweredBy (skew last : ℕ) (number delivery : Option ℕ) (n t : ℕ) (a : Reception) : Type 0 where
   pub late : (a ≡ Late) ↔ (t < last)
   pub out : (a ≡ OutOfSequence) ↔ ((last ≤ t) × (passes number n ≡ false))
@@ -46,7 +46,7 @@ LaterCountsAsNone =
     (skew last : ℕ) (number : Option ℕ) (d n t : ℕ) → last ≤ t → passes number n ≡ true → t < d
     → receptionBy skew last number (some d) n t ≡ Delivered
 
--- in figures: SkewMax 100, last time 40, first on its network, a delivery at 50
+-- the answers in figures: SkewMax 100, last time 40, first on its network, a delivery at 50
 abbrev pub AnswersInFigures : Type 0
 AnswersInFigures =
     map (receptionBy 100 40 none (some 50) 7) (39 ∷ 40 ∷ 49 ∷ 50 ∷ 150 ∷ 151 ∷ [])

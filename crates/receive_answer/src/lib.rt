@@ -1,5 +1,5 @@
 // The answers of a receiving end: integrity by sequence number, then the first of two copies delivered. What a link
-// remembers comes in words. Every function is total.
+// remembers is passed in words. Every function is total.
 ghost use mathlib.Core.Path.{_≡_};
 ghost use Rattle.receive_sequence.specs.Sequence.{numberOf};
 ghost use Rattle.receive_answer.specs.Answer.{other, deliveryOf, receptionCode, taken, inSkew, receptionBy};
@@ -17,7 +17,7 @@ pub struct Arrival {
     pub time: u64,
 }
 
-// The answer: delivered, the copy of a frame that was, out of sequence, or a refusal, 4 or 8.
+// The answer to a frame: delivered, the copy of a frame that was delivered, out of sequence, or a refusal, 4 or 8.
 pub enum Reception {
     Delivered,
     Copy,
@@ -40,7 +40,7 @@ impl Reception {
         }
     }
 
-    // Whether the frame was received: all answers but the refusals.
+    // Whether the frame was received: true for all answers but the refusals.
     pub fn taken(self) -> bool
         ensures { λ r. ⌜ r ≡ taken self ⌝ }
     {
@@ -63,7 +63,7 @@ pub fn other(network: Network) -> Network
     }
 }
 
-// Whether a delivery awaits its copy and is no more than SkewMax old at a time, nor timed after it.
+// Whether a delivery awaits its copy, is no more than SkewMax old at a time, and is not timed after that time.
 fn in_skew(skew: u32, waits: u64, delivered: u64, time: u64) -> bool
     ensures { λ r. ⌜ r ≡ inSkew skew (deliveryOf waits delivered) time ⌝ }
 {
@@ -76,8 +76,8 @@ fn in_skew(skew: u32, waits: u64, delivered: u64, time: u64) -> bool
     time - delivered <= skew as u64
 }
 
-// What is answered, from the words that a memory has for a frame: the link's last time, the last number on the frame's
-// network, and the other network's delivery of its number.
+// The answer to a frame, from the words that a memory has for the frame: the link's last time, the last number on the
+// frame's network, and the other network's delivery of the frame's number.
 pub fn reception_by(
     skew: u32,
     last: u64,

@@ -64,7 +64,7 @@ unfolding waits
 waits-high none = omega arith
 waits-high (some d) = omega arith
 
--- where a copy is answered, one does
+-- where a copy is answered, a delivery awaits it
 copy-waits : (rows : List ℕ) (words : ℕ) (p : List Answered) (f : Arrival) → ruleAnswer rows words p f ≡ Copy
     → waits (unmet (other (f .network)) (f .number) (ofLink (f .link) p)) ≡ 1
 copy-waits rows words p f e = cases (rowFound rows words (f .link)) refl
@@ -86,7 +86,7 @@ module _ (link : ℕ) (x : Network) (n : ℕ) (f : Arrival) (p : List Answered) 
   abbrev sent : Reception → ℕ
   sent a = one (onLink link f && (numbered (other x) n f && isDelivered a))
 
-  -- neither is counted, and none comes or goes
+  -- the frame is neither a counted copy nor a counted delivery, and no delivery comes or goes
   idle : (a : Reception) → (onLink link f && (numbered x n f && isCopy a)) ≡ false → due (answeredOf f a ∷ p) ≡ due p → copied a + due (answeredOf f a ∷ p) ≤ sent a + due p
   idle a e q = let o : copied a ≡ 0 = one-false _ e in omega arith
 

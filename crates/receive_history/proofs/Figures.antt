@@ -1,4 +1,4 @@
--- A history in figures: by the rule, computed. Assumes nothing.
+-- A history in figures, computed by the rule. Assumes nothing.
 use Prim.Native.Nat.{ℕ, zero, suc, _<_}
 use mathlib.Core.Bool.{Bool, true, _&&_}
 use mathlib.Core.List.{List, [], _∷_, map, List·Memᴰ, List·Memᴰ·not-nil, List·Memᴰ·cases-cons}
@@ -22,7 +22,7 @@ use Rattle.receive_history.specs.Rule.{newestTime, newestNumber, unmet, 
 use Rattle.receive_history.specs.Figures.{skewTen, framesInFigures, HistoryInFigures, ZerosAreEmpty}
 use Rattle.receive_history.proofs.Rule.{rule-of-receptions}
 
--- numbers that are octets, by their tests
+-- whether all numbers are octets, by tests
 abbrev low : List Arrival → Bool
 low [] = true
 low (f ∷ h) = ltb (f .number) numberCount && low h

@@ -1,4 +1,5 @@
--- Isolation: a link's answers and its memory go by its SkewMax, the memory that it had and its own frames. Assumes nothing.
+-- Isolation: a link's answers and its memory depend on the link's SkewMax, the memory at the start and the link's own
+-- frames alone. Assumes nothing.
 use Prim.Native.Nat.{ℕ, _+_, _*_, _≤_, _<_}
 use mathlib.Core.Bool.{false, false≢true}
 use mathlib.Core.List.{List}
@@ -26,7 +27,7 @@ use Rattle.receive_history.specs.Isolation.{SameOnLink, ReceptionsApartF
 use Rattle.receive_history.proofs.Memory.{some?, amount}
 use Rattle.receive_history.proofs.Rule.{rows-apart}
 
--- ---- a call keeps how many words there are
+-- ---- a call keeps the number of words
 length-call : (rows r : List ℕ) (f : Arrival) → f .number < numberCount → length (received rows r f .memory) ≡ length r
 length-call rows r f h = cases (rowFound rows (length r) (f .link)) refl
   where
@@ -34,7 +35,7 @@ length-call rows r f h = cases (rowFound rows (length r) (f .link)) refl
     cases Nowhere e = ap (λ (z : Received). length (z .memory)) (call-nowhere rows r f e)
     cases (At j) e = changes-own-memory rows r f h j e .long
 
--- a call on another link leaves the memory of row i as it is
+-- a call on another link leaves the memory of row i unchanged
 beside : (rows r : List ℕ) (link i : ℕ) → rowFound rows (length r) link ≡ At i → (f : Arrival) → f .number < numberCount → onLink link f ≡ false
     → SameMemory (received rows r f .memory) i r i
 beside rows r link i e f h off =
@@ -42,7 +43,7 @@ beside rows r link i e f h off =
     (λ q k l. refl)
     (λ j q. left-beside r j f (answerBy (skewIn rows j) r j f) h i (rows-apart rows (length r) link (f .link) i j e q (λ m. eqb-false _ _ off (sym m))))
 
--- ---- a history on memories r, and its frames of one link on memories s, whose memory of the link is the same
+-- ---- a history on memories r, and its frames of one link on memories s, in which that link's memory is the same
 module _ (link : ℕ) (rows : List ℕ) (words j : ℕ) (e : rowFound rows words link ≡ At j)
     (rows′ : List ℕ) (words′ i : ℕ) (e′ : rowFound rows′ words′ link ≡ At i) (skew : skewIn rows j ≡ skewIn rows′ i) where
   abbrev Same : List ℕ → List ℕ → Type 0

@@ -24,7 +24,7 @@ use Rattle.receive_history.specs.Words.{pastOf, nextAnswer, DeliveryOf, 
 use Rattle.receive_history.proofs.Memory.{some?, amount, other-other, numbered-true, numbered-is, unmet-delivered, unmet-other, unmet-met, unmet-still, unmet-out, unmet-unknown, unmet-late, unmet-none}
 use Rattle.receive_history.proofs.Rule.{rule-of-next}
 
--- ---- what it is that `unmet` finds
+-- ---- the delivery that `unmet` finds
 pub record Unmet (x : Network) (n : ℕ) (p : List Answered) (d : ℕ) : Type 0 where
   pub later : List Answered
   pub delivery : Answered
@@ -114,7 +114,7 @@ module _ (x : Network) (n : ℕ) where
   unmet-past f UnknownLink p u v = unmet-unknown x n f p
   unmet-past f Late p u v = unmet-late x n f p
 
-  -- so the delivery is the one that is found
+  -- the delivery is the one that `unmet` finds
   pub unmet-is : (later : List Answered) (b : Answered) (earlier : List Answered) → DeliveryOf x n b
       → ((a : Answered) → List·Memᴰ a later → DeliveryOf x n a → ⊥) → ((a : Answered) → List·Memᴰ a later → CopyOf (other x) n a → ⊥)
       → unmet x n (later ++ (b ∷ earlier)) ≡ some (b .frame .time)
@@ -154,7 +154,7 @@ module _ (skew : ℕ) (p : List Answered) (f : Arrival) where
       (λ a n c. m .not-met a n (c .0, c .1 ∙ other-other (f .network), c .2)))
       ∙ in-skew-at skew (m .delivery .frame .time) (f .time) (m .not-after) (m .in-skew)
 
-  -- the answer that is a copy
+  -- the answer copy says that a delivery is within SkewMax
   pub copy-skew : ruleOn skew p f ≡ Copy → inSkew skew (unmet (other (f .network)) (f .number) p) (f .time) ≡ true
   unfolding ruleOn
   copy-skew =
@@ -219,7 +219,7 @@ alone-delivered rows r z before o f h j e l q u =
     (λ m.
     u (m .delivery) (subst (List·Memᴰ (m .delivery)) (sym (m .stands)) (Memᴰ·append-right (m .later) (List·Memᴰ·head refl))) (m .same) (m .in-skew))
 
--- ---- two offsets in one list: the first before the second, the same, or after it
+-- ---- two positions in one list: the first before the second, the same, or after it
 places : {A : Type 0} (xs : List A) (x : A) (ys : List A) (vs : List A) (v : A) (ws : List A) → xs ++ (x ∷ ys) ≡ vs ++ (v ∷ ws)
     → List·Memᴰ v xs ⊎ ((x ≡ v) ⊎ List·Memᴰ x vs)
 places [] x ys [] v ws e = inr (inl (head-eq-of-cons-eq e))
@@ -242,7 +242,7 @@ met-once rows r z before o f h j e later c earlier s copy none-later q =
     (λ n. m .not-met c n copy) d)
     (places later c earlier (m .later) (m .delivery) (m .earlier) (sym s ∙ m .stands))
 
--- ---- frames that are not received, or don't pass
+-- ---- frames that are not received, or that don't pass
 rule-late : (skew : ℕ) (p : List Answered) (f : Arrival) → f .time < newestTime p → ruleOn skew p f ≡ Late
 unfolding ruleOn
 rule-late skew p f h = sym (reception-late skew (newestTime p) (newestNumber (f .network) p) (unmet (other (f .network)) (f .number) p) (f .number) (f .time) h)

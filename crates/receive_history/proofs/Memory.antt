@@ -1,4 +1,5 @@
--- What a memory holds: at every point of a history it says what the frames that its link received say. Assumes nothing.
+-- What a memory holds: at every point of a history the memory says what the frames that its link received say. Assumes
+-- nothing.
 use Prim.Native.Nat.{ℕ, _+_, _*_, _≤_, _<_}
 use mathlib.Core.Bool.{Bool, true, false, _&&_, false≢true}
 use mathlib.Core.List.{List, [], _∷_}
@@ -26,7 +27,7 @@ use Rattle.receive.proofs.Stored.{noted-room, noted-time, noted-number, noted-o
 use Rattle.receive_history.specs.History.{Answered, answeredOf}
 use Rattle.receive_history.specs.Rule.{newestTime, sameNetwork, newestNumber, numbered, unmet, ruleOn}
 
--- ---- options apart, and what they hold
+-- ---- options: whether one has a value, and which
 abbrev pub some? : Option ℕ → Bool
 some? none = false
 some? (some x) = true
@@ -64,14 +65,14 @@ numbered-true x n f e =
 pub numbered-is : (x : Network) (n : ℕ) (f : Arrival) → f .network ≡ x → f .number ≡ n → numbered x n f ≡ true
 numbered-is x n f p q = ap₂ _&&_ (subst (λ (y : Network). sameNetwork (f .network) y ≡ true) p (network-same (f .network))) (eq-eqb _ _ q)
 
--- ---- deliveries of other networks or numbers have other offsets
+-- ---- deliveries of other networks or numbers have other indices
 places : (x y : Network) (n m : ℕ) → n < numberCount → m < numberCount → awaitingWord x n ≡ awaitingWord y m → (x ≡ y) × (n ≡ m)
 places A A n m h l e = (refl, omega arith)
 places B B n m h l e = (refl, omega arith)
 places A B n m h l e = absurd (omega arith)
 places B A n m h l e = absurd (omega arith)
 
--- ---- the frames before, with one more
+-- ---- one more frame before
 module _ (f : Arrival) (a : Reception) (p : List Answered) where
   pub newest-time : newestTime (answeredOf f a ∷ p) ≡ f .time
   unfolding newestTime
@@ -118,13 +119,13 @@ pub unmet-none : (x : Network) (n : ℕ) → unmet x n [] ≡ none
 unfolding unmet
 unmet-none x n = refl
 
--- ---- memory j says what the frames p do
+-- ---- memory j says what the frames p say
 pub record Represents (r : List ℕ) (j : ℕ) (p : List Answered) : Type 0 where
   pub time : latestTime r j ≡ newestTime p
   pub number : (x : Network) → lastNumber r j x ≡ newestNumber x p
   pub delivery : (x : Network) (n : ℕ) → n < numberCount → awaiting r j x n ≡ unmet x n p
 
--- an empty memory of no frames
+-- an empty memory says what no frames say
 pub empty-says : (r : List ℕ) (j : ℕ) → ((k : ℕ) → k < memoryWords → word r j k ≡ 0) → Represents r j []
 unfolding newestTime newestNumber unmet
 empty-says r j z =
@@ -152,7 +153,7 @@ unfolding answerBy ruleOn
 answer-says skew r j p f h q =
     rw (q .time, q .number (f .network), q .delivery (other (f .network)) (f .number) h) refl
 
--- ---- what an answer leaves says one frame more
+-- ---- the memory after an answer says what the frames say with one more
 module _ (r : List ℕ) (j : ℕ) (room : memoryWords * j + memoryWords ≤ length r) (p : List Answered) (f : Arrival) (h : f .number < numberCount) (q : Represents r j p) where
   says-number : (a : Reception) (x : Network) → lastNumber (noted r j f) j x ≡ newestNumber x (answeredOf f a ∷ p)
   says-number a x =

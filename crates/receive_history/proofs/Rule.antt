@@ -39,7 +39,7 @@ abbrev at : Found → ℕ
 at (At j) = j
 at Nowhere = 0
 
--- ---- one frame more among those that a link received
+-- ---- one more frame among those that a link received
 module _ (l : ℕ) (f : Arrival) (p : List Answered) where
   pub joins : (a : Reception) → onLink l f ≡ true → taken a ≡ true → ofLink l (answeredOf f a ∷ p) ≡ answeredOf f a ∷ ofLink l p
   joins a e t = only-take (receivedOn l) (answeredOf f a) p (ap₂ _&&_ e t)
@@ -50,12 +50,12 @@ module _ (l : ℕ) (f : Arrival) (p : List Answered) where
   pub other-stays : (a : Reception) → onLink l f ≡ false → ofLink l (answeredOf f a ∷ p) ≡ ofLink l p
   other-stays a e = only-drop (receivedOn l) (answeredOf f a) p (ap (λ (b : Bool). b && taken a) e)
 
--- ---- so many words, and every memory says what the frames that its link received before say
+-- ---- the memories have so many words, and every memory says what the frames that its link received before say
 pub record Stands (rows : List ℕ) (words : ℕ) (p : List Answered) (r : List ℕ) : Type 0 where
   pub long : length r ≡ words
   pub each : (l j : ℕ) → rowFound rows words l ≡ At j → Represents r j (ofLink l p)
 
--- what one call answers by the rule, and that the memories stand after it
+-- a call is answered by the rule, and the memories stand after the call
 pub record Step (rows : List ℕ) (words : ℕ) (p : List Answered) (f : Arrival) (z : Received) : Type 0 where
   pub says : z .says ≡ ruleAnswer rows words p f
   pub stands : Stands rows words (answeredOf f (z .says) ∷ p) (z .memory)
@@ -64,7 +64,7 @@ module _ (rows : List ℕ) (words : ℕ) (p : List Answered) (r : List ℕ) (st 
   by-length : (d : Found) → rowFound rows words (f .link) ≡ d → rowFound rows (length r) (f .link) ≡ d
   by-length d e = ap (λ (n : ℕ). rowFound rows n (f .link)) (st .long) ∙ e
 
-  -- a link with no row
+  -- a frame on a link with no row
   unknown-step : rowFound rows words (f .link) ≡ Nowhere → Step rows words p f (receivedOf UnknownLink r)
   unfolding ruleAnswer
   unknown-step e =
@@ -96,7 +96,7 @@ module _ (rows : List ℕ) (words : ℕ) (p : List Answered) (r : List ℕ) (st 
         (subst (λ (s : List ℕ). Represents s j (ofLink l p)) (sym (refused-leaves r j f a t))
         (subst (λ (x : ℕ). Represents r x (ofLink l p)) (sym k) (st .each l i q)))))
 
-    -- those of others
+    -- the memories of other links
     others : (a : Reception) (l i : ℕ) → rowFound rows words l ≡ At i → onLink l f ≡ false → Represents (memoryAfter r j f a) i (ofLink l (answeredOf f a ∷ p))
     others a l i q off =
         let d = rows-apart rows words l (f .link) i j q e (λ m. eqb-false _ _ off (sym m)) in
@@ -147,7 +147,7 @@ starts rows r z =
 pub rule-of-receptions : RuleOfReceptions
 rule-of-receptions rows r z h o = same-answers h (each-frame rows (length r) h o) [] r (starts rows r z)
 
--- the past of the rule is that of the answers
+-- the past of the rule is the past of the answers
 stands-after : (rows r : List ℕ) → Empty rows r → (before : List Arrival) → Octets before
     → Stands rows (length r) (pastOf rows r before) (finalMemory rows r before)
 stands-after rows r z before o =

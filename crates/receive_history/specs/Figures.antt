@@ -12,9 +12,10 @@ use Rattle.receive_history.specs.History.{Empty, frameAnswers}
 abbrev pub skewTen : List ℕ
 skewTen = 1 ∷ 2 ∷ 0 ∷ 0 ∷ 0 ∷ 10 ∷ 1 ∷ 2 ∷ 0 ∷ 0 ∷ 0 ∷ 0 ∷ []
 
--- frames with their network, number and time. B's first is late, since the link's last time is A's; then it is a copy, exactly
--- SkewMax old; 1 again is no step on, nor is 4 after 1; 5 follows the 4 that was received; link 259 has no row; after 255 passes
--- 1; 0 passes, and its delivery on A is 11 old when it comes on B; that one awaits its copy
+-- frames with their network, number and time. B's first frame is late, since the link's last time is A's; then that
+-- frame is a copy, exactly SkewMax old; 1 again is no step on, nor is 4 after 1; 5 follows the 4 that was received;
+-- link 259 has no row; after 255 passes 1; 0 passes, and its delivery on A is 11 old when 0 comes on B; the delivery on
+-- B awaits its copy
 abbrev pub framesInFigures : List Arrival
 framesInFigures =
     arrivalOf 258 A 1 100 ∷ arrivalOf 258 B 1 90 ∷ arrivalOf 258 B 1 110 ∷ arrivalOf 258 B 1 110
@@ -22,7 +23,7 @@ framesInFigures =
     ∷ arrivalOf 258 A 0 130 ∷ arrivalOf 258 B 0 141 ∷ arrivalOf 258 A 0 141
     ∷ []
 
--- their codes, from any two memories that are empty
+-- the codes of these frames, from any two memories that are empty
 abbrev pub HistoryInFigures : Type 0
 HistoryInFigures =
     (r : List ℕ) → length r ≡ 2054 → Empty skewTen r

@@ -1,5 +1,5 @@
--- Histories of the receiving end (document 02, Q-1): lists of frames from empty memories, each on the memories that the one
--- before left.
+-- Histories of the receiving end (document 02, Q-1): lists of frames from empty memories, each frame on the memories
+-- that the frame before left.
 use Prim.Native.Nat.{ℕ, _*_, _<_}
 use mathlib.Core.Bool.{Bool}
 use mathlib.Core.List.{List, [], List·Memᴰ}
@@ -17,7 +17,7 @@ use Rattle.receive.specs.Lent.{skewIn, memoryWords, rowsInUse, rowFound, word}
 use Rattle.receive.specs.Receive.{received}
 use Rattle.receive_sequence.specs.Sequence.{numberCount}
 
--- a frame with the answer that it got
+-- a frame with its answer
 pub record Answered : Type 0 where
   pub frame : Arrival
   pub says : Reception
@@ -25,11 +25,11 @@ pub record Answered : Type 0 where
 abbrev pub answeredOf : Arrival → Reception → Answered
 answeredOf f a = record { frame = f; says = a }
 
--- frames received by these rows: what a frame is answered, and the memories that it leaves
+-- frames received by these rows: the answer to a frame, and the memories that the frame leaves
 abbrev pub receiving : List ℕ → Machine (List ℕ) Arrival Answered
 receiving rows = record { says = λ r f. answeredOf f (received rows r f .says); leaves = λ r f. received rows r f .memory }
 
--- what the frames of a list are answered, and the memories that the last one leaves
+-- the answers to a list of frames, and the memories that the last frame leaves
 abbrev pub frameAnswers : List ℕ → List ℕ → List Arrival → List Answered
 frameAnswers rows r h = History.answers (receiving rows) r h
 
@@ -40,7 +40,7 @@ finalMemory rows r h = History.final (receiving rows) r h
 abbrev pub Empty : List ℕ → List ℕ → Type 0
 Empty rows r = (j : ℕ) → j < rowsInUse (length rows) (length r) → (k : ℕ) → k < memoryWords → word r j k ≡ 0
 
--- sequence numbers are octets, as those of every call are
+-- all sequence numbers are octets, as in every call
 abbrev pub Octets : List Arrival → Type 0
 Octets h = (f : Arrival) → List·Memᴰ f h → f .number < numberCount
 

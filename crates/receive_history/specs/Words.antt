@@ -18,7 +18,8 @@ use Rattle.receive.specs.Receive.{received}
 use Rattle.receive_history.specs.History.{Answered, frameAnswers, finalMemory, Empty, Octets, onLink}
 use Rattle.receive_history.specs.Rule.{ofLink, newestTime, newestNumber, numbered, ruleAnswer}
 
--- ---- the rule, of one frame f after the frames `before`. `pastOf`: these with their answers, the newest first
+-- ---- the rule, for a frame f after the frames `before`. `pastOf`: the frames before with their answers, the newest
+-- first
 abbrev pub pastOf : List ℕ → List ℕ → List Arrival → List Answered
 pastOf rows r before = reverse (frameAnswers rows r before)
 
@@ -30,8 +31,8 @@ RuleOfNext =
     (rows r : List ℕ) → Empty rows r → (before : List Arrival) → Octets before → (f : Arrival) → f .number < numberCount
     → nextAnswer rows r before f ≡ ruleAnswer rows (length r) (pastOf rows r before) f
 
--- ---- in words. A frame that no row is for, one that is late, one that doesn't pass; the frames that its link received settle
--- these
+-- ---- the rule in words: a frame whose link has no row, a frame that is late, a frame that doesn't pass; the frames
+-- that the link received settle these
 pub record OtherAnswers (rows : List ℕ) (words : ℕ) (past : List Answered) (f : Arrival) (a : Reception) : Type 0 where
   pub unknown : rowFound rows words (f .link) ≡ Nowhere → a ≡ UnknownLink
   pub late : (j : ℕ) → rowFound rows words (f .link) ≡ At j → f .time < newestTime (ofLink (f .link) past) → a ≡ Late
@@ -50,8 +51,9 @@ DeliveryOf x n a = (a .says ≡ Delivered) × (a .frame .network ≡ x) × (a .f
 abbrev pub CopyOf : Network → ℕ → Answered → Type 0
 CopyOf x n a = (a .says ≡ Copy) × (a .frame .network ≡ x) × (a .frame .number ≡ n)
 
--- the delivery that a frame f is the copy of, among the frames that its link received before it: of the same number, on the other
--- network, not timed after it, no more than SkewMax old; no later frame there is another such delivery or the copy of this one
+-- the delivery that a frame f is the copy of, among the frames that the link received before f: of the same number, on
+-- the other network, not timed after f, no more than SkewMax old; no later frame there is another such delivery or the
+-- copy of this one
 pub record MeetsDelivery (skew : ℕ) (past : List Answered) (f : Arrival) : Type 0 where
   pub later : List Answered
   pub delivery : Answered
@@ -76,15 +78,15 @@ CopiesInWords =
     → passes (newestNumber (f .network) (ofLink (f .link) (pastOf rows r before))) (f .number) ≡ true
     → CopyOrDelivered (skewIn rows j) (ofLink (f .link) (pastOf rows r before)) f (nextAnswer rows r before f)
 
--- every copy, whatever came before, meets a delivery of its number on the other network
+-- every copy, whatever came before it, meets a delivery of its number on the other network
 abbrev pub CopyMeetsDelivery : Type 0
 CopyMeetsDelivery =
     (rows r : List ℕ) → Empty rows r → (before : List Arrival) → Octets before → (f : Arrival) → f .number < numberCount
     → (j : ℕ) → rowFound rows (length r) (f .link) ≡ At j
     → nextAnswer rows r before f ≡ Copy → MeetsDelivery (skewIn rows j) (ofLink (f .link) (pastOf rows r before)) f
 
--- and each delivery at most one copy: after a copy of a number there is no second one before that number is delivered on the
--- other network again
+-- each delivery meets at most one copy: after a copy of a number there is no second one before that number is delivered
+-- on the other network again
 abbrev pub MetOnce : Type 0
 MetOnce =
     (rows r : List ℕ) → Empty rows r → (before : List Arrival) → Octets before → (f : Arrival) → f .number < numberCount
@@ -94,7 +96,8 @@ MetOnce =
     → ((a : Answered) → List·Memᴰ a later → DeliveryOf (other (f .network)) (f .number) a → ⊥)
     → nextAnswer rows r before f ≡ Copy → ⊥
 
--- so, counted over a history: on every link, of every number, one network has no more copies than the other has deliveries
+-- copies and deliveries counted over a history: on every link, of every number, one network has no more copies than the
+-- other has deliveries
 abbrev pub isDelivered : Reception → Bool
 isDelivered Delivered = true
 isDelivered Copy = false
@@ -120,7 +123,8 @@ OneCopyEach =
     (rows r : List ℕ) → Empty rows r → (h : List Arrival) → Octets h → (link : ℕ) (x : Network) (n : ℕ)
     → copies link x n (frameAnswers rows r h) ≤ deliveries link (other x) n (frameAnswers rows r h)
 
--- a number that passes on one network alone is delivered: none of that number was delivered on the other within SkewMax
+-- a number that passes on one network alone is delivered: no delivery of that number was made on the other network
+-- within SkewMax
 abbrev pub AloneDelivered : Type 0
 AloneDelivered =
     (rows r : List ℕ) → Empty rows r → (before : List Arrival) → Octets before → (f : Arrival) → f .number < numberCount

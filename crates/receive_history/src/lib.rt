@@ -1,1 +1,1 @@
-// What the receiving end answers over lists of frames. Statements and proofs only: specs/ and proofs/.
+// No code: what the receiving end answers over lists of frames. See specs/Claims.antt.

@@ -1,4 +1,4 @@
--- What passes: the table, and every number after every last one. Assumes nothing.
+-- What passes: the table, and every number after every last number. Assumes nothing.
 use Prim.Native.Nat.{ℕ, _+_, _<_}
 use mathlib.Core.Bool.{Bool, true, _||_, or-true}
 use mathlib.Core.Logic.{_⊎_, inl, inr, _↔_}
@@ -19,7 +19,7 @@ pub pass-table : PassTable
 unfolding passes next
 pass-table = refl
 
--- one of three numbers, by its tests
+-- a number is one of three exactly where one of three tests holds
 one-of : (n a b c : ℕ) → ((eqb n a || eqb n b || eqb n c) ≡ true) ↔ ((n ≡ a) ⊎ (n ≡ b) ⊎ (n ≡ c))
 one-of n a b c = (there, back)
   where
@@ -37,7 +37,7 @@ one-of n a b c = (there, back)
     back (inr (inl p)) = ap (λ (x : Bool). eqb n a || x || eqb n c) (eq-eqb _ _ p) ∙ ap (λ (x : Bool). x || eqb n c) (or-true (eqb n a))
     back (inr (inr p)) = ap (λ (x : Bool). eqb n a || eqb n b || x) (eq-eqb _ _ p) ∙ or-true (eqb n a || eqb n b)
 
--- after p, whose steps are a and b
+-- what passes after p, whose next numbers are a and b
 steps : (p a b n : ℕ) → next p ≡ a → next a ≡ b → (passes (some p) n ≡ true) ↔ ((n ≡ 0) ⊎ (n ≡ a) ⊎ (n ≡ b))
 steps p a b n e f =
     subst (λ (x : Bool). (x ≡ true) ↔ ((n ≡ 0) ⊎ (n ≡ a) ⊎ (n ≡ b)))

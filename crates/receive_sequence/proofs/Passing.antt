@@ -1,4 +1,4 @@
--- Laws of sequence numbers, as the code asks them: the last number held in a word. Assumes nothing.
+-- Laws of sequence numbers, as the code tests them: the last number is held in a word. Assumes nothing.
 use Prim.Native.Nat.{ℕ, _+_, _-_, _<_}
 use mathlib.Core.Bool.{true, false, _||_}
 use mathlib.Core.Option.{Option, none, some}
@@ -47,7 +47,7 @@ module _ (w n : ℕ) where
       steps : passes (numberOf w) n ≡ (eqb n (next (w - 1)) || eqb n (next (next (w - 1))))
       steps = held ∙ simp (ne-eqb n 0 z)
 
-      -- a word over 256 holds the number of no octet
+      -- a word over 256 holds no octet's number
       pub passes-forged : 256 < w → n < 256 → false ≡ passes (numberOf w) n
       passes-forged h l =
           let a : (w - 1) + 1 ≡ next (w - 1) = next-adds (w - 1) (λ e. omega arith) in

@@ -24,7 +24,7 @@ PassTable =
     ∷ (true ∷ true ∷ true ∷ false ∷ false ∷ false ∷ false ∷ [])
     ∷ []
 
--- the same of every number, first and after every last number: what passes is 0, and one or two steps on
+-- which numbers pass, first and after every last number: 0, and one or two steps on
 pub record PassesExactly : Type 0 where
   pub first : (n : ℕ) → passes none n ≡ true
   pub below-254 : (p n : ℕ) → p < 254 → (passes (some p) n ≡ true) ↔ ((n ≡ 0) ⊎ (n ≡ p + 1) ⊎ (n ≡ p + 2))

@@ -1,16 +1,17 @@
-// Sequence numbers of frames: what follows a number, and whether one passes after the last. Every function is total.
+// Sequence numbers of frames: which number follows a number, and whether a number passes after the last. Every function
+// is total.
 ghost use mathlib.Core.Path.{_≡_};
 ghost use Rattle.receive_sequence.specs.Sequence.{next, passes, numberOf};
 
 const GREATEST_NUMBER: u8 = 255;
 
-// What follows the greatest: 0 never comes again.
+// The number after the greatest: 1, since 0 comes only after a reset.
 const AFTER_GREATEST: u8 = 1;
 
-// What a word holds at most for a last number, which has 1 added.
+// The largest word that holds a last number: such a word has 1 added to the number.
 const GREATEST_HELD: u64 = 256;
 
-// One step on.
+// The number one step on.
 fn next(number: u8) -> u8
     ensures { λ r. ⌜ r ≡ next number ⌝ }
 {
@@ -21,8 +22,8 @@ fn next(number: u8) -> u8
     }
 }
 
-// Whether a number passes after the last one, which is held in a word. A word that holds no number of an octet is
-// followed by 0 alone.
+// Whether a number passes after the last number, which is held in a word. After a word that holds no octet's number
+// only 0 passes.
 pub fn passes(held: u64, number: u8) -> bool
     ensures { λ r. ⌜ r ≡ passes (numberOf held) number ⌝ }
 {

@@ -16,7 +16,7 @@ use Rattle.rows.specs.Rows.{Rows, tableOf, numberOctets, rowNumber, othe
 use Rattle.rows.specs.declared.Found.{Found}
 use Rattle.rows.specs.declared.Found.the-variants.{At, Nowhere}
 
--- ---- as a loop goes: none of the first i of `used` rows of w octets has number x
+-- ---- the search as a loop: none of the first i of `used` rows of w octets has number x
 module _ (w : ℕ) (octets : List ℕ) (x used i : ℕ) (s : leading (otherNumber (tableOf w octets) x) i ≡ i) where
   -- row i is in use, and its number r is in hand
   module _ (h : i < used) (r : ℕ) (v : r ≡ numberAt numberOctets octets (w * i)) where
@@ -33,7 +33,7 @@ module _ (w : ℕ) (octets : List ℕ) (x used i : ℕ) (s : leading (otherNumbe
         leading-stop (otherNumber (tableOf w octets) x) i used s (ap not (eq-eqb _ _ (number-is ∙ q))) h in
         rw f (simp (lt-ltb _ _ h))
 
-  -- all rows are seen
+  -- all rows were seen, and none has the number
   pub search-miss : used ≤ i → i ≤ used → Nowhere ≡ foundIn (tableOf w octets) used x
   unfolding foundIn
   search-miss h k =
@@ -41,7 +41,7 @@ module _ (w : ℕ) (octets : List ℕ) (x used i : ℕ) (s : leading (otherNumbe
       let f : leading (otherNumber (tableOf w octets) x) used ≡ used = rw m at s in
       rw f (simp (le-ltb used used (omega arith)))
 
--- ---- what reports the answers apart
+-- ---- which row an answer names
 abbrev at-row : Found → ℕ
 at-row (At i) = i
 at-row Nowhere = 0
@@ -52,7 +52,7 @@ is-at Nowhere = false
 
 -- ---- the search among n rows
 module _ (l : Rows) (n x : ℕ) where
-  -- by cases of what is found
+  -- case analysis of the row found
   by-found : (P : Found → Type 0) → (rowOf l n x < n → P (At (rowOf l n x))) → (n ≤ rowOf l n x → P Nowhere) → P (foundIn l n x)
   unfolding foundIn
   by-found P f g =
@@ -60,13 +60,13 @@ module _ (l : Rows) (n x : ℕ) where
       (λ e. simp e (f (ltb-true _ _ e)))
       (λ e. simp e (g (ltb-false _ _ e)))
 
-  -- rows before the index found have other numbers
+  -- rows before the row found have other numbers
   others : (j : ℕ) → j < rowOf l n x → rowNumber l j ≡ x → ⊥
   others j h q =
       let e : otherNumber l x j ≡ true = leading-before (otherNumber l x) n j h in
       false≢true (sym (ap not (eq-eqb _ _ q)) ∙ e)
 
-  -- a row that is found is one of the n, has the number, and is the first that has it
+  -- a row that is found is one of the n rows, has the number, and is the first that has the number
   pub first-found : (i : ℕ) → foundIn l n x ≡ At i → (i < n) × (rowNumber l i ≡ x) × ((j : ℕ) → j < i → rowNumber l j ≡ x → ⊥)
   first-found i =
       by-found (λ f. f ≡ At i → (i < n) × (rowNumber l i ≡ x) × ((j : ℕ) → j < i → rowNumber l j ≡ x → ⊥))
@@ -76,14 +76,14 @@ module _ (l : Rows) (n x : ℕ) where
       (omega arith, eqb-true _ _ (not-false (eqb (rowNumber l i) x) t), λ j k. others j (omega arith)))
       (λ h e. absurd (false≢true (ap is-at e)))
 
-  -- where none is found, none of the n has it
+  -- where no row is found, none of the n rows has the number
   pub none-found : foundIn l n x ≡ Nowhere → (j : ℕ) → j < n → rowNumber l j ≡ x → ⊥
   none-found =
       by-found (λ f. f ≡ Nowhere → (j : ℕ) → j < n → rowNumber l j ≡ x → ⊥)
       (λ h e. absurd (false≢true (sym (ap is-at e))))
       (λ h e j k. others j (omega arith))
 
--- rows with the same numbers are found alike
+-- rows with the same numbers give the same answer
 pub found-same : (l m : Rows) (n x : ℕ) → ((j : ℕ) → j < n → rowNumber l j ≡ rowNumber m j) → foundIn l n x ≡ foundIn m n x
 unfolding foundIn
 found-same l m n x h =

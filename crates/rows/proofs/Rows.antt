@@ -10,7 +10,7 @@ use Rattle.octets.proofs.Numbers.{number-shift}
 use Rattle.octets.proofs.Parts.{getD-clamped, row-below}
 use Rattle.rows.specs.Rows.{inUse}
 
--- the rows in use are there whole
+-- the rows in use lie inside the run
 module _ (w octets count n : ℕ) (e : n ≡ inUse w octets count) where
   pub rows-inside : w * n ≤ octets
   rows-inside =
@@ -33,7 +33,7 @@ module _ (s : List ℕ) (first x at : ℕ) (e : at ≡ min first (length s) + x)
   pub number-near : (w : ℕ) → numberAt w s at ≡ numberAt w s (first + x)
   number-near w = number-shift w s s at (first + x) (λ k l. near k)
 
--- a distance in one octet times an index in two
+-- the product of a distance in one octet and an index in two
 pub small-step : (x y : ℕ) → x < 2 ^ 8 → y < 2 ^ 16 → x * y < 2 ^ 24
 small-step x y h k =
     let hx : x ≤ 255 = omega arith in

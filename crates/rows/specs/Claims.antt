@@ -5,7 +5,7 @@ use mathlib.Core.Path.{_≡_}
 use Rattle.rows.specs.Rows.{tableOf, inUse, foundIn}
 use Rattle.rows.specs.declared.Found.the-variants.{At, Nowhere}
 
--- rows in use: two rows of 13 octets and the counts 0 to 3; a row in part is none
+-- rows in use: two rows of 13 octets and the counts 0 to 3; a row that is lent in part is not in use
 abbrev pub RowsInUse : Type 0
 RowsInUse = (map (inUse 13 26) (0 ∷ 1 ∷ 2 ∷ 3 ∷ []) ≡ 0 ∷ 1 ∷ 2 ∷ 2 ∷ []) × (inUse 13 25 9 ≡ 1)
 

@@ -12,8 +12,8 @@ use Rattle.rows.specs.declared.Found.{Found}
 use Rattle.rows.specs.declared.Found.the-variants.{At, Nowhere}
 use Rattle.rows.specs.declared.Spacing.{Spacing}
 
--- the octets that rows stand in, the offset of the first row, and the distance from one to the next: in a table rows touch, in an
--- image a field's tag and length stand between them
+-- the octets that the rows stand in, the offset of the first row, and the distance from one row to the next: in a table
+-- rows touch, in an image a field's tag and length stand between two rows
 pub record Rows : Type 0 where
   pub octets : List ℕ
   pub first : ℕ
@@ -43,11 +43,13 @@ numberOctets = 2
 abbrev pub rowNumber : Rows → ℕ → ℕ
 rowNumber r i = numberAt numberOctets (r .octets) (rowOffset r i)
 
--- rows of w octets in use in a run of so many octets: a count larger than the rows lent is read as those; a row in part is none
+-- rows of w octets in use in a run of so many octets: a count larger than the rows lent is read as their number; a row
+-- that is lent in part is not in use
 abbrev pub inUse : ℕ → ℕ → ℕ → ℕ
 inUse w octets count = min count (octets / w)
 
--- row i has another number than x; the first of n rows that has it, n where none has it; and that row as it is answered
+-- whether row i has another number than x; the first of n rows that has number x, n where no row has it; and that row
+-- as an answer
 abbrev pub otherNumber : Rows → ℕ → ℕ → Bool
 otherNumber r x i = not (eqb (rowNumber r i) x)
 

@@ -9,13 +9,13 @@ ghost use Rattle.rows.specs.Rows.{numberOctets, tableOf, inUse, foundIn}
 // Octets of a row's number.
 pub const NUMBER_OCTETS: usize = 2;
 
-// Where the rows of a run stand: the offset of the first, and how far apart they are.
+// The spacing of rows in a run: the offset of the first row, and the distance from one row to the next.
 pub struct Spacing {
     pub first: usize,
     pub step: u8,
 }
 
-// The row that has a number, if there is one.
+// The row that has a number, if there is such a row.
 pub enum Found {
     At(usize),
     Nowhere,
@@ -28,7 +28,7 @@ pub fn row_offset(run: &[u8], rows: Spacing, i: u16) -> usize
     octets::least(rows.first, run.len()) + rows.step as usize * i as usize
 }
 
-// The number of a row that is there: a part of two octets is read.
+// The number of a row that lies inside the run, read from a part of two octets.
 fn number_in(rows: &[u8], at: usize) -> u16
     requires { ⌜ at + numberOctets ≤ length (now rows) ⌝ }
     ensures { λ r. ⌜ r ≡ numberAt numberOctets (now (rows .entry)) at ⌝ }
@@ -36,7 +36,7 @@ fn number_in(rows: &[u8], at: usize) -> u16
     octets::u16_at(&rows[at..at + NUMBER_OCTETS], 0)
 }
 
-// The first of so many rows that has the number, two rows a turn. All of them are there.
+// The first of `used` rows that has the number, two rows a turn. All of these rows lie inside the run.
 fn search(rows: &[u8], width: usize, used: usize, number: u16) -> Found
     requires { ⌜ numberOctets ≤ width ⌝ ∗ ⌜ width * used ≤ length (now rows) ⌝ }
     ensures { λ r. ⌜ r ≡ foundIn (tableOf width (now (rows .entry))) used number ⌝ }
@@ -61,7 +61,7 @@ fn search(rows: &[u8], width: usize, used: usize, number: u16) -> Found
 }
 
 // The first of the rows in use that has the number; a row has `rest` octets after its number. A count larger than the
-// rows lent is read as those.
+// rows lent is read as their number.
 pub fn find(rows: &[u8], rest: u8, count: usize, number: u16) -> Found
     ensures { λ r. ⌜ r ≡ foundIn
         (tableOf (numberOctets + rest) (now (rows .entry)))

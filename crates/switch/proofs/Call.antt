@@ -1,4 +1,4 @@
--- Laws of the frame call, case by case as the code goes. Assumes nothing.
+-- Laws of the frame call, case by case as the code goes through the call. Assumes nothing.
 use Prim.Native.Nat.{ℕ, _+_, _-_, _*_, _/_, _≤_, _<_}
 use mathlib.Core.Bool.{Bool, true, false, not, _&&_}
 use mathlib.Core.List.{List}
@@ -31,7 +31,7 @@ use Rattle.filter.specs.Filter.{frameCode, portCode, routeTo, routed}
 use Rattle.switch.specs.Call.{State, stateOf, Call, After, inUseBy, accountsInUse, accountHeld, Decided, kept, stepOn, decided, stored, refusedWith, settled, called}
 use Rattle.filter.proofs.Filter.{frame-zero, route-stopped, route-row}
 
--- an account in use is below both runs' lengths, and its row is there
+-- an account in use is below the lengths of both runs, and its row is lent whole
 module _ (n a c t u i : ℕ) (e : u ≡ inUseBy n a c t) (h : i < u) where
   pub used-credit : i < c
   unfolding inUseBy
@@ -58,7 +58,7 @@ held-by accounts s i c t p f q r =
     f ∙ terms-within accounts at (at + accountOctets - at) (omega arith) ∙ ap (termsAt accounts) (sym (zero-add at)) in
     λ k. accountOf (row k) (q k) (r k)
 
--- what an account holds, stored again, changes nothing
+-- storing again what an account holds changes nothing
 pub held-again : (accounts : List ℕ) (s : State) (i : ℕ)
     → stateOf (set (s .credits) i (accountHeld accounts s i .credit)) (set (s .lasts) i (accountHeld accounts s i .last)) ≡ s
 unfolding accountHeld
@@ -80,7 +80,7 @@ module _ (l : Link) (used : ℕ) (a : Account) (n port t : ℕ) (r : Bool) (e : 
       unfolding decided
       decided-port m d q = q ∙ simp (← e, not-false r h, some-sound a c f z, p, ne-eqb (portCode l n port) 0 (rw p at m))
 
-      -- the cost y in hand, and what is judged by it
+      -- the decision with the cost y in hand
       pub decided-step : x ≡ 0 → lengthCode n ≡ 0 → (y : ℕ) → y ≡ checkedCost (termsOf a) n → (s : Stepped) → s ≡ judgedAt a c y t
           → (w : Report) → w ≡ withMask (l .mask) (s .says)
           → _≡_ {A = Decided} (record { says = w; credit = s .account .credit; last = s .account .last }) (decided l used a n port t)
@@ -89,12 +89,12 @@ module _ (l : Link) (used : ℕ) (a : Account) (n port t : ℕ) (r : Bool) (e : 
           let q : s ≡ policed a n t = u ∙ police-judged a n t k (some-sound a c f z) c y (some-capacity a c f z) g in
           simp (v, q, ← e, not-false r h, some-sound a c f z, eq-eqb (portCode l n port) 0 (sym p ∙ m))
 
--- of an unsound link or an unsound account
+-- the decision for an unsound link or an unsound account
 pub decided-unsound : (l : Link) (used : ℕ) (a : Account) (n port t : ℕ) → (linkSound l used (a .terms .smax) && accountSound a) ≡ false → decided l used a n port t ≡ kept 10 a
 unfolding decided
 decided-unsound l used a n port t e = simp e
 
--- of a sound link and a sound account
+-- the decision for a sound link and a sound account
 module _ (l : Link) (used : ℕ) (a : Account) (n port t : ℕ) (e : linkSound l used (a .terms .smax) ≡ true) (v : accountSound a ≡ true) where
   pub decided-refused : (portCode l n port ≡ 0 → ⊥) → decided l used a n port t ≡ kept (portCode l n port) a
   unfolding decided
@@ -117,7 +117,7 @@ module _ (g : Config) (s : State) (f : Call) where
   unfolding called
   call-row z = ap (settled g s f) (sym (route-row (f .octets) (g .constant) (g .links) (g .linkCount) _ refl z _ refl _ refl))
 
--- a frame that has a link has a frame's size
+-- a frame that has a link is of a frame's size
 pub link-sized : (f : List ℕ) (constant : ℕ) (links : List ℕ) (count : ℕ) (r : Route) → r ≡ routed f constant links count
     → (l : Link) → r ≡ OnLink l → lengthCode (length f) ≡ 0
 link-sized f constant links count r q l h =

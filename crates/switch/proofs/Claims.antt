@@ -1,4 +1,4 @@
--- What holds of the frame call for any tables, by cases of its definition. Assumes nothing.
+-- What holds of the frame call for any tables, case by case. Assumes nothing.
 use Prim.Native.Nat.{ℕ, _-_, _≤_, _<_}
 use mathlib.Core.Bool.{Bool, true, false, not, _&&_, false≢true}
 use mathlib.Core.List.{List, [], _∷_}
@@ -41,7 +41,7 @@ use Rattle.switch.specs.Table.{linkLines, rowLines, codeTable, CodesInOr
 use Rattle.filter.proofs.Filter.{frame-length, frame-constant, frame-passes, frame-code-high, frame-zero, port-other, port-small, port-large, port-passes, port-code-high, passed-largest}
 use Rattle.switch.proofs.Call.{held-again, decided-unsound, decided-refused, decided-policed, onRow, call-refused, call-row}
 
--- ---- by cases of what is decided for a link and its account, the frame having the size of a frame
+-- ---- case analysis of the decision for a link and its account, for a frame of a frame's size
 module _ (l : Link) (used : ℕ) (a : Account) (n port t : ℕ) (z : lengthCode n ≡ 0) where
   refused-port : (linkSound l used (a .terms .smax) && accountSound a) ≡ true → (portCode l n port ≡ 0 → ⊥) → decided l used a n port t ≡ kept (portCode l n port) a
   refused-port e h =
@@ -78,7 +78,7 @@ module _ (l : Link) (used : ℕ) (a : Account) (n port t : ℕ) (z : lengthCode 
       and-not : (x y : Bool) → (x && y) ≡ true → y ≡ false → ⊥
       and-not x y e v = false≢true (sym v ∙ both x y e .1)
 
--- ---- by cases of the call
+-- ---- case analysis of the call
 module _ (g : Config) (s : State) (f : Call) where
   abbrev n : ℕ
   n = length (f .octets)
@@ -124,7 +124,7 @@ length-alone g s f h =
     call-refused g s f (λ z. h (e ∙ z)) ∙ ap (λ (c : ℕ). refusedWith c s) (sym e)
 
 -- ---- the table of codes
--- the lines of the port and the sizes, with others after them
+-- the lines of the port and the sizes, with other lines after them
 module _ (l : Link) (n port : ℕ) (rest : List Line) where
   abbrev port-lines : List Line
   port-lines = line 5 (not (eqb port (l .port))) ∷ line 6 (ltb n (l .smallest)) ∷ line 7 (ltb (l .largest) n) ∷ rest
@@ -188,7 +188,7 @@ module _ (g : Config) (s : State) (f : Call) where
 pub codes-in-order : CodesInOrder
 codes-in-order g s f = in-order g s f
 
--- ---- accounts in use: from their definition alone
+-- ---- accounts in use, from their definition alone
 pub in-use-exactly : InUseExactly
 unfolding inUseBy
 in-use-exactly g s i = (λ h. (omega arith, omega arith, omega arith, omega arith), λ h. omega (arith, h .0, h .1, h .2, h .3))
@@ -208,7 +208,7 @@ at-the-count g s f j z q h =
 
 -- ---- what a call reports and leaves
 module _ (used : ℕ) (s : State) (f : Call) (l : Link) (a : Account) where
-  -- a refusal with a code of its own that leaves the state
+  -- a refusal reports its code alone and leaves the state unchanged
   refused-effects : (c : ℕ) (r : After) → r .says ≡ report c none none → r .state ≡ s → (c ≡ 0 → ⊥) → (c ≡ 8 → ⊥) → (c ≡ 9 → ⊥) → Effects used s f l a r
   refused-effects c r w e p q u =
       let k : r .says .code ≡ c = ap (λ (x : Report). x .code) w in
@@ -267,7 +267,7 @@ call-effects g s f =
     (λ _. stopped-effects g s f 4 (λ e. omega arith) (omega arith) Nowhere)
     (λ z j. link-effects g s f (linkIn (linkTable (g .links)) j) (frame-zero (g .constant) (f .octets) z))
 
--- where nothing changes, by the row
+-- the state is unchanged after any code but 0 and 9, by the row found
 kept-by : (g : Config) (s : State) (f : Call) (d : Found) (r : After) → RowEffects g s f d r → (r .says .code ≡ 0 → ⊥) → (r .says .code ≡ 9 → ⊥) → r .state ≡ s
 kept-by g s f Nowhere r e z n = e .0
 kept-by g s f (At j) r e z n = e .kept z n

@@ -29,7 +29,7 @@ LengthAlone =
     (g : Config) (s : State) (f : Call) → (lengthCode (length (f .octets)) ≡ 0 → ⊥)
     → called g s f ≡ refusedWith (lengthCode (length (f .octets))) s
 
--- ---- accounts in use ("Accounts and links"): exactly those that the count names and that row, credit and last time are lent for
+-- ---- accounts in use ("Accounts and links"): exactly those below the count whose row, credit and last time are lent
 abbrev pub InUseExactly : Type 0
 InUseExactly =
     (g : Config) (s : State) (i : ℕ)
@@ -49,7 +49,7 @@ PortsBeyond =
     (g : Config) (s : State) (f : Call) → portCount ≤ f .port
     → (called g s f .says .code ≡ 10) ⊎ ((1 ≤ called g s f .says .code) × (called g s f .says .code ≤ 5))
 
--- ---- what a call is lent, given and leaves, each part by its name
+-- ---- what a call is lent, is given and leaves, each part by its name
 abbrev pub CallParts : Type 0
 CallParts =
     (credits lasts octets : List ℕ) (port time : ℕ) (says : Report)

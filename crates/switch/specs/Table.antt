@@ -1,5 +1,5 @@
--- The table of codes of the frame call, line by line, for any tables, counts, frame, port and time whatsoever (document 01, "Codes,
--- in order of checking"); proved in proofs/Claims.antt.
+-- The table of codes of the frame call, line by line, for any tables, counts, frame, port and time whatsoever (document
+-- 01, "Codes, in order of checking"); proved in proofs/Claims.antt.
 use Prim.Native.Nat.{ℕ}
 use mathlib.Core.Bool.{true, not, _&&_}
 use mathlib.Core.List.{List, [], _∷_}
@@ -19,7 +19,7 @@ use Rattle.rows.specs.declared.Found.the-variants.{At, Nowhere}
 use Rattle.tables.specs.declared.Link.{Link}
 use Rattle.switch.specs.Call.{State, Call, accountsInUse, accountHeld, called}
 
--- ---- the table of codes, line by line: the call's code is that of the first line that fits, 0 where none does
+-- ---- the table of codes, line by line: the call's code is that of the first line that fits, 0 where no line fits
 -- the lines of a link l and its account a
 abbrev pub linkLines : Config → State → Call → Link → Account → List Line
 linkLines g s f l a =
@@ -31,7 +31,7 @@ linkLines g s f l a =
     ∷ line 9 (ltb (creditAt a (f .time)) (cost (termsOf a) (length (f .octets))))
     ∷ []
 
--- 4 alone where no row has the number
+-- the lines by the row found; 4 alone where no row has the number
 abbrev pub rowLines : Config → State → Call → Found → List Line
 rowLines g s f Nowhere = line 4 true ∷ []
 rowLines g s f (At j) = linkLines g s f (linkIn (linkTable (g .links)) j) (accountHeld (g .accounts) s (linkIn (linkTable (g .links)) j .account))

@@ -18,14 +18,14 @@ pub struct Ingress {
     pub time: u64,
 }
 
-// A verdict, with the credit and the last time that the account then has.
+// A verdict, with the account's credit and last time after the call.
 struct Decision {
     verdict: Verdict,
     credit: u32,
     last: u64,
 }
 
-// A refusal that leaves the account as it is.
+// A refusal that keeps the account's credit and last time.
 fn kept(code: u8, account: Account) -> Decision
     ensures { λ r. ⌜ decisionOf r ≡ kept code account ⌝ }
 {
@@ -36,8 +36,8 @@ fn kept(code: u8, account: Account) -> Decision
     }
 }
 
-// What is decided of a frame for its link and account, `used` accounts being in use: 10, then 5, 6 and 7, then the
-// last part of the policing step, `judge`. The capacity is asked once, and handed on.
+// The decision on a frame for its link and account, `used` accounts being in use: 10, then 5, 6 and 7, then the last
+// part of the policing step, `judge`. The capacity is asked once and handed on to `judge`.
 fn decide(link: Link, used: usize, account: Account, octets: usize, ingress: Ingress) -> Decision
     requires { ⌜ lengthCode octets ≡ 0 ⌝ }
     ensures { λ r. ⌜ decisionOf r ≡ decided link used account octets (ingress .port) (ingress .time) ⌝ }
@@ -62,7 +62,7 @@ fn decide(link: Link, used: usize, account: Account, octets: usize, ingress: Ing
     }
 }
 
-// Accounts in use: the count, or the rows of the shortest run lent where that is less.
+// Accounts in use: the count, or the number of rows in the shortest run lent where that is less.
 fn accounts_in_use(count: usize, accounts: usize, credits: usize, lasts: usize) -> usize
     ensures { λ r. ⌜ r ≡ inUseBy count accounts credits lasts ⌝ }
 {
@@ -73,7 +73,8 @@ fn accounts_in_use(count: usize, accounts: usize, credits: usize, lasts: usize) 
     octets::least(count, rows)
 }
 
-// Account a, which is in use, with its credit and last time. The row is handed on as a part of its own length.
+// Account a, which is in use, with its credit and last time. The account's row is passed on as a part of just its
+// length.
 fn account_held(accounts: &[u8], credits: &[u32], lasts: &[u64], a: u16) -> Account
     requires { ⌜ accountOctets * a + accountOctets ≤ length (now accounts) ⌝
         ∗ ⌜ a < length (now credits) ⌝ ∗ ⌜ a < length (now lasts) ⌝ }
@@ -91,8 +92,8 @@ fn account_held(accounts: &[u8], credits: &[u32], lasts: &[u64], a: u16) -> Acco
     }
 }
 
-// A frame as it came in: its verdict, with the credit and the last time of its account stored. Any tables, settings and
-// octets get an answer; no row beyond the counts is looked at.
+// The frame call: returns the verdict on a frame, and stores the credit and the last time of the frame's account. Any
+// tables, settings and octets get an answer; no row beyond the counts is looked at.
 pub fn frame_call(
     frame: &[u8],
     ingress: Ingress,

@@ -8,7 +8,8 @@ use Rattle.account.specs.Step.{StepReport}
 use Rattle.switch_verdict.specs.declared.Verdict.{Verdict}
 use Rattle.switch_verdict.specs.declared.Verdict.the-variants.{Forwarded, Short, Late, Refused}
 
--- its number in the table of codes, and the mask and the credit that it carries, if any
+-- what a verdict reports: its number in the table of codes, and the mask and the credit that the verdict carries, if
+-- any
 pub record Report : Type 0 where
   pub code : ℕ
   pub mask : Option ℕ
@@ -23,7 +24,7 @@ reported (Short c) = report Codes.short none (some c)
 reported (Late c) = report Codes.late none (some c)
 reported (Refused n) = report n none none
 
--- what a policing step reports, on a link with this mask: a forwarded frame gets the mask beside its credit
+-- the report of a policing step, on a link with this mask: a forwarded frame gets the mask beside its credit
 abbrev pub maskFor : ℕ → ℕ → Option ℕ → Option ℕ
 maskFor mask code none = none
 maskFor mask code (some c) = if eqb code Codes.success then some mask else none

@@ -14,7 +14,7 @@ use Rattle.tables.specs.Claims.{ConfigParts, SettingsParts, accountParts
 use Rattle.tables.proofs.Rows.{terms-read, link-read}
 use Rattle.tables.specs.declared.Link.{Link}
 
--- rows with the same links are found alike
+-- rows with the same links give the same answer
 pub links-same : (l m : Rows) (n x : ℕ) → ((j : ℕ) → j < n → linkIn l j ≡ linkIn m j) → foundIn l n x ≡ foundIn m n x
 unfolding linkAt
 links-same l m n x h = found-same l m n x (λ j k. ap (λ (w : Link). w .number) (h j k))

@@ -34,7 +34,7 @@ module _ (s t : List ℕ) (a b : ℕ) where
   link-same h =
       rw (start 13 h 2 (omega arith), h 2 (omega arith), inside 13 h 4 3 (omega arith), inside 13 h 2 7 (omega arith), inside 13 h 2 9 (omega arith), inside 13 h 2 11 (omega arith))
 
--- ---- a row read value by value, wherever each stands
+-- ---- a row read value by value
 pub terms-read : (s : List ℕ) (at a k j m : ℕ) → a ≡ termsAt s at .smax → k ≡ termsAt s at .k → j ≡ termsAt s at .jitter → m ≡ termsAt s at .mode
     → _≡_ {A = Terms} (record { smax = a; k = k; jitter = j; mode = m }) (termsAt s at)
 terms-read s at a k j m p q u v = rw (p, q, u, v)
@@ -44,7 +44,7 @@ pub link-read : (s : List ℕ) (at n p w i z a : ℕ) → n ≡ linkAt s at .num
     → _≡_ {A = Link} (record { number = n; port = p; mask = w; smallest = i; largest = z; account = a }) (linkAt s at)
 link-read s at n p w i z a h1 h2 h3 h4 h5 h6 = rw (h1, h2, h3, h4, h5, h6)
 
--- ---- a row lent as a part of n octets
+-- ---- a row read from a part of n octets
 pub terms-within : (s : List ℕ) (at n : ℕ) → accountOctets ≤ n → termsAt (take n (drop at s)) 0 ≡ termsAt s at
 terms-within s at n h =
     terms-same (take n (drop at s)) s 0 at

@@ -12,7 +12,7 @@ use Rattle.tables.specs.declared.Link.{Link}
 use Rattle.tables.specs.Rows.{accountOctets, linkOctets, accountTable, linkTable, accountIn, linkIn, linksInUse}
 use Rattle.tables.specs.Rows.{termsAt, linkAt, found, configOf, settingsOf, configFor}
 
--- ---- a row spelled from any values reads back as these, whatever stands before and after it
+-- ---- a row spelled from any values reads back as these values, whatever stands before and after it
 -- an account: Smax (2), k (1), J (2), mode (1)
 abbrev pub accountParts : Terms → List Part
 accountParts p = part 2 (p .smax) ∷ part 1 (p .k) ∷ part 2 (p .jitter) ∷ part 1 (p .mode) ∷ []
@@ -49,11 +49,11 @@ RowFigures =
     × (linkIn (linkTable sampleLinks) 1
     ≡ record { number = 3599; port = 16; mask = 286397204; smallest = 5398; largest = 5912; account = 6426 })
 
--- ---- the search: a row is in use exactly where the count names it and it is lent whole
+-- ---- the search: a row is in use exactly where it is below the count and lent whole
 abbrev pub LinksInUseExactly : Type 0
 LinksInUseExactly = (links : List ℕ) (count j : ℕ) → (j < linksInUse links count) ↔ ((j < count) × (13 * j + 13 ≤ length links))
 
--- a row that is found is in use, has the number, and is the first that has it
+-- a row that is found is in use, has the number, and is the first that has the number
 abbrev pub FindsFirst : Type 0
 FindsFirst =
     (links : List ℕ) (count x i : ℕ) → found links count x ≡ At i
@@ -61,7 +61,7 @@ FindsFirst =
     × (linkIn (linkTable links) i .number ≡ x)
     × ((j : ℕ) → j < i → linkIn (linkTable links) j .number ≡ x → ⊥)
 
--- where none is found, no row in use has the number
+-- where no row is found, no row in use has the number
 abbrev pub FindsNone : Type 0
 FindsNone =
     (links : List ℕ) (count x : ℕ) → found links count x ≡ Nowhere

@@ -35,7 +35,8 @@ linkAt s at =
       account = numberAt 2 s (at + 11);
     }
 
--- account i and link j of rows at equal distances: in a table they touch, in an image a field's tag and length stand between them
+-- account i and link j of rows at equal distances: in a table rows touch, in an image a field's tag and length stand
+-- between two rows
 abbrev pub accountIn : Rows → ℕ → Terms
 accountIn r i = termsAt (r .octets) (rowOffset r i)
 
@@ -49,7 +50,8 @@ accountTable s = tableOf accountOctets s
 abbrev pub linkTable : List ℕ → Rows
 linkTable s = tableOf linkOctets s
 
--- link rows in use ("Accounts and links"): a count larger than the rows lent is read as those; a row in part is none
+-- link rows in use ("Accounts and links"): a count larger than the rows lent is read as their number; a row that is
+-- lent in part is not in use
 abbrev pub linksInUse : List ℕ → ℕ → ℕ
 linksInUse links count = inUse linkOctets (length links) count
 
@@ -57,12 +59,12 @@ linksInUse links count = inUse linkOctets (length links) count
 abbrev pub found : List ℕ → ℕ → ℕ → Found
 found links count x = foundIn (linkTable links) (linksInUse links count) x
 
--- the link of such a row, if there is one
+-- the link of the row found, if a row is found
 abbrev pub lookupIn : List ℕ → Found → Lookup
 lookupIn links (At j) = Present (linkIn (linkTable links) j)
 lookupIn links Nowhere = Absent
 
--- the constant field, the tables and the counts that go with them: what an image is written from, and what a frame call is lent
+-- the constant field, the two tables and their counts: what an image is written from, and what a frame call is lent
 pub record Config : Type 0 where
   pub constant : ℕ
   pub accounts : List ℕ
@@ -77,6 +79,6 @@ configOf c accounts n links m = record { constant = c; accounts = accounts; acco
 abbrev pub settingsOf : ℕ → ℕ → ℕ → Settings
 settingsOf c n m = record { constant = c; accounts = n; links = m }
 
--- what a frame call is lent ("Accounts and links"): these, with the tables that were filled
+-- what a frame call is lent ("Accounts and links"): the settings, with the tables that loading filled
 abbrev pub configFor : Settings → List ℕ → List ℕ → Config
 configFor q accounts links = configOf (q .constant) accounts (q .accounts) links (q .links)

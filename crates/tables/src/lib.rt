@@ -1,5 +1,5 @@
-// The tables that a switch is lent: rows of 6 octets an account and 13 a link, in the order of the image's data.
-// Decoding a row, and the search for a link's number.
+// The tables that a switch is lent: rows of 6 octets an account and 13 a link, in the order of the image's data. Rows
+// are decoded here, and a link's number is looked up.
 ghost use mathlib.Core.Path.{_≡_};
 ghost use Prim.Native.Nat.{_+_, _≤_, _<_};
 ghost use lib.ListN.{length, getD};
@@ -8,7 +8,7 @@ ghost use Rattle.tables.specs.Rows.{accountOctets, termsAt, linkOctets, 
 use rows::Found;
 use terms::Terms;
 
-// Octets of a row.
+// Octets of an account row and of a link row.
 pub const ACCOUNT_OCTETS: usize = 6;
 
 pub const LINK_OCTETS: usize = 13;
@@ -31,13 +31,14 @@ pub struct Settings {
     pub links: usize,
 }
 
-// The link of a number, if there is one.
+// The link with a number, if there is such a link.
 pub enum Lookup {
     Present(Link),
     Absent,
 }
 
-// One, two and four octets from an offset on that are there, with no test for each: a part of known length is read.
+// One octet, and the numbers of two and four octets, inside a run: read from a part of known length, with no test for
+// each octet.
 fn octet_in(rows: &[u8], at: usize) -> u8
     requires { ⌜ at < length (now rows) ⌝ }
     ensures { λ r. ⌜ r ≡ getD (now (rows .entry)) at 0 ⌝ }
@@ -59,7 +60,7 @@ fn u32_in(rows: &[u8], at: usize) -> u32
     octets::u32_at(&rows[at..at + 4], 0)
 }
 
-// The account values of a row that is there.
+// The account values of a row that lies inside the run.
 fn terms_in(rows: &[u8], at: usize) -> Terms
     requires { ⌜ at + accountOctets ≤ length (now rows) ⌝ }
     ensures { λ r. ⌜ r ≡ termsAt (now (rows .entry)) at ⌝ }
@@ -72,7 +73,7 @@ fn terms_in(rows: &[u8], at: usize) -> Terms
     }
 }
 
-// The account values whose octets start at an offset; octets past the end are 0.
+// The account values of the row at an offset; read directly if complete, otherwise zero-padded.
 pub fn terms_at(rows: &[u8], at: usize) -> Terms
     ensures { λ r. ⌜ r ≡ termsAt (now (rows .entry)) at ⌝ }
 {
@@ -84,7 +85,7 @@ pub fn terms_at(rows: &[u8], at: usize) -> Terms
     terms_in(&row, 0)
 }
 
-// The link of a row that is there.
+// The link of a row that lies inside the run.
 fn link_in(rows: &[u8], at: usize) -> Link
     requires { ⌜ at + linkOctets ≤ length (now rows) ⌝ }
     ensures { λ r. ⌜ r ≡ linkAt (now (rows .entry)) at ⌝ }
@@ -99,7 +100,7 @@ fn link_in(rows: &[u8], at: usize) -> Link
     }
 }
 
-// The link whose octets start at an offset; octets past the end are 0.
+// The link of the row at an offset; read directly if complete, otherwise zero-padded.
 pub fn link_at(rows: &[u8], at: usize) -> Link
     ensures { λ r. ⌜ r ≡ linkAt (now (rows .entry)) at ⌝ }
 {
@@ -111,7 +112,7 @@ pub fn link_at(rows: &[u8], at: usize) -> Link
     link_in(&row, 0)
 }
 
-// The first of the rows in use that has the number. A count larger than the rows lent is read as those.
+// The first of the rows in use that has the number. A count larger than the rows lent is read as their number.
 pub fn find(links: &[u8], count: usize, number: u16) -> Found
     ensures { λ r. ⌜ r ≡ found (now (links .entry)) count number ⌝ }
 {
@@ -123,7 +124,7 @@ pub fn find(links: &[u8], count: usize, number: u16) -> Found
     )
 }
 
-// The link in the first of the rows in use that has the number. A row that is found is there whole.
+// The link of the first row in use that has the number. A row that is found lies inside the run.
 pub fn look_up(links: &[u8], count: usize, number: u16) -> Lookup
     ensures { λ r. ⌜ r ≡ lookupIn (now (links .entry)) (found (now (links .entry)) count number) ⌝ }
 {

@@ -1,4 +1,5 @@
--- Laws of the value rules, test by test as the code makes them, and over rows with the same octets. Assumes nothing.
+-- Laws of the value rules, test by test as the code makes the tests, and over rows with the same octets. Assumes
+-- nothing.
 use Prim.Native.Nat.{ℕ, min, _+_, _*_, _-_, _/_, _%_, _^_, _≤_, _<_}
 use mathlib.Core.Bool.{Bool, true, false, not, _&&_}
 use mathlib.Core.Path.{_≡_, sym, ap, ap₂, _∙_}
@@ -62,7 +63,7 @@ module _ (l : Link) (n smax : ℕ) where
     unfolding linkSound
     sizes-left q z f = f ∙ simp (lt-ltb _ _ h, ← e, not-false r q)
 
-  -- what a sound link says
+  -- what holds of a sound link
   pub sound-account : linkSound l n smax ≡ true → l .account < n
   unfolding linkSound
   sound-account e = ltb-true _ _ (both (ltb (l .account) n) _ (both _ (sizesSound (l .smallest) (l .largest) smax) e .0) .0)
@@ -86,7 +87,7 @@ pub account-good-same : (a b : Rows) (i j : ℕ) → accountIn a i ≡ accountIn
 unfolding accountGood
 account-good-same a b i j e = rw e
 
--- the Smax in hand counts only where the link's account is below n
+-- the Smax matters only where the link's account is below n
 sound-same : (l : Link) (n x y : ℕ) → (l .account < n → x ≡ y) → linkSound l n x ≡ linkSound l n y
 sound-same l n x y h =
     split (ltb (l .account) n)
@@ -129,7 +130,7 @@ module _ (a l : Rows) (n j : ℕ) (r : Bool) (e : r ≡ numberRises l j) where
   unfolding linkGood
   link-falls h = simp (← e, not-true r h)
 
-  -- by the link and its account's Smax in hand
+  -- a link row by the link and the Smax of its account in hand
   pub link-values : not r ≡ false → (k : Link) (x : ℕ) (z : Bool) → k ≡ linkIn l j → x ≡ accountIn a (k .account) .smax → z ≡ linkSound k n x
       → z ≡ linkGood a l n j
   unfolding linkGood

@@ -21,8 +21,8 @@ LinkSoundExactly =
     ↔ ((l .account < n) × (l .port < 32) × (l .mask ≡ 0 → ⊥) × (l .mask / 2 ^ l .port % 2 ≡ 0)
     × (64 ≤ l .smallest) × (l .smallest ≤ l .largest) × (l .largest ≤ smax))
 
--- bit p is port p's, over all 32 ports: a mask of one bit is refused on that bit's port and on no other; a mask of all bits but
--- one is accepted on that one's port; a mask of all bits is accepted on none
+-- bit p is port p's, over all 32 ports: a mask of one bit is refused on that bit's port and on no other port; a mask of
+-- all bits but one is accepted on the missing bit's port; a mask of all bits is accepted on no port
 abbrev pub ports : List ℕ
 ports =
     0 ∷ 1 ∷ 2 ∷ 3 ∷ 4 ∷ 5 ∷ 6 ∷ 7 ∷ 8 ∷ 9 ∷ 10 ∷ 11 ∷ 12 ∷ 13 ∷ 14 ∷ 15
@@ -40,15 +40,15 @@ NumbersRise =
     (l : Rows) (j : ℕ)
     → (numberRises l 0 ≡ true) × ((numberRises l (suc j) ≡ true) ↔ (linkIn l j .number < linkIn l (suc j) .number))
 
--- a row is good where its own values are, and a link's where its number rises too
+-- a row is good where its own values are good and, for a link, its number rises
 abbrev pub RowsGoodExactly : Type 0
 RowsGoodExactly =
     (a l : Rows) (n i : ℕ)
     → (accountGood a i ≡ termsGood (accountIn a i))
     × ((linkGood a l n i ≡ true) ↔ ((numberRises l i ≡ true) × (linkRowSound a l n i ≡ true)))
 
--- the sizes of a sound link row are a frame's, and at most Smax as the row of its account has it: in modes with line octets too
--- (document 02, Q-3)
+-- the sizes of a sound link row are a frame's, and at most the Smax in the row of the link's account, in modes with
+-- line octets too (document 02, Q-3)
 abbrev pub SizesWithinSmax : Type 0
 SizesWithinSmax =
     (a l : Rows) (n j : ℕ) → linkRowSound a l n j ≡ true
@@ -56,7 +56,7 @@ SizesWithinSmax =
     × (linkIn l j .smallest ≤ linkIn l j .largest)
     × (linkIn l j .largest ≤ accountIn a (linkIn l j .account) .smax)
 
--- a link of number 7 with these values; judged among 2 accounts, Smax 200 for its own
+-- a link of number 7 with these values, judged among 2 accounts, with Smax 200 for its own account
 abbrev pub linkWith : ℕ → ℕ → ℕ → ℕ → ℕ → Link
 linkWith port mask smallest largest account =
     record { number = 7; port = port; mask = mask; smallest = smallest; largest = largest; account = account }
@@ -75,7 +75,7 @@ LinkRefused =
     ∷ [])
     ≡ false ∷ false ∷ false ∷ false ∷ false ∷ false ∷ false ∷ []
 
--- the same values at the good side of each bound; and all ports but the input port
+-- link values at the good side of each bound; and all ports but the input port
 abbrev pub LinkAccepted : Type 0
 LinkAccepted =
     map (λ l. linkSound l 2 200)

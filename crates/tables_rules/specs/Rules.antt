@@ -15,30 +15,31 @@ use Rattle.tables.specs.declared.Link.{Link}
 abbrev pub portCount : ℕ
 portCount = 32
 
--- an input port, and a mask that names some output port and not the input port, bit p for port p
+-- whether a port is an input port, and a mask names some output port and not the input port, bit p for port p
 unfoldable pub portsSound : ℕ → ℕ → Bool
 portsSound port mask = ltb port portCount && not (eqb mask 0) && eqb (mask / 2 ^ port % 2) 0
 
--- the smallest frame, the link's smallest, its largest, the account's Smax, each at most the next
+-- whether sizes rise: the smallest frame, the link's smallest, the link's largest, the account's Smax, each at most the
+-- next
 unfoldable pub sizesSound : ℕ → ℕ → ℕ → Bool
 sizesSound smallest largest smax = leb smallestFrame smallest && leb smallest largest && leb largest smax
 
--- a link among n accounts, the Smax of its own in hand
+-- whether a link's values keep their rules among n accounts; `smax` is the Smax of the link's own account
 unfoldable pub linkSound : Link → ℕ → ℕ → Bool
 linkSound l n smax = ltb (l .account) n && portsSound (l .port) (l .mask) && sizesSound (l .smallest) (l .largest) smax
 
--- the values of row i of the accounts
+-- whether the values of row i of the accounts keep their limits
 unfoldable pub accountGood : Rows → ℕ → Bool
 accountGood a i = termsGood (accountIn a i)
 
--- row j of the links among n accounts: Smax is that of the row of its own account
+-- whether row j of the links keeps its rules among n accounts, by the Smax in the row of the link's own account
 abbrev pub linkRowSound : Rows → Rows → ℕ → ℕ → Bool
 linkRowSound a l n j = linkSound (linkIn l j) n (accountIn a (linkIn l j .account) .smax)
 
--- a link's number is above that of the row before it
+-- whether the number of link row j is above that of the row before it
 unfoldable pub numberRises : Rows → ℕ → Bool
 numberRises l j = if eqb j 0 then true else ltb (linkIn l (j - 1) .number) (linkIn l j .number)
 
--- the values of row j of the links, its number's rise with them
+-- whether the values of row j of the links keep their rules and the number rises
 unfoldable pub linkGood : Rows → Rows → ℕ → ℕ → Bool
 linkGood a l n j = numberRises l j && linkRowSound a l n j

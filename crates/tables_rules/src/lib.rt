@@ -1,5 +1,5 @@
 // The value rules of rows: those of an account's values, and those of a link among the accounts. Reading and writing an
-// image answer 23 by them, and a frame call 10. Every function is total.
+// image answer 23 by these rules, and a frame call answers 10. Every function is total.
 ghost use mathlib.Core.Path.{_≡_};
 ghost use Rattle.rows.specs.Rows.{rowsBy};
 ghost use Rattle.tables.specs.Rows.{accountIn};
@@ -10,7 +10,7 @@ use tables::Link;
 // Ports of a switch.
 const PORT_COUNT: u8 = 32;
 
-// Whether a port is an input port and a mask names some output port, but not the input port.
+// Whether a port is an input port, and a mask names some output port but not the input port.
 fn ports_sound(port: u8, mask: u32) -> bool
     ensures { λ r. ⌜ r ≡ portsSound port mask ⌝ }
 {
@@ -36,7 +36,7 @@ fn sizes_sound(smallest: u16, largest: u16, smax: u16) -> bool
     largest <= smax
 }
 
-// Whether a link's values keep their rules among so many accounts; `smax` is that of the link's account.
+// Whether a link's values keep their rules among so many accounts; `smax` is the Smax of the link's account.
 pub fn link_sound(link: Link, accounts: usize, smax: u16) -> bool
     ensures { λ r. ⌜ r ≡ linkSound link accounts smax ⌝ }
 {
@@ -63,7 +63,7 @@ fn smax_of(run: &[u8], rows: Spacing, i: u16) -> u16
     octets::u16_at(run, rows::row_offset(run, rows, i))
 }
 
-// Whether the number in row j of the links is above the one before it.
+// Whether the number in row j of the links is above that of the row before it.
 fn number_rises(run: &[u8], rows: Spacing, j: u16) -> bool
     ensures { λ r. ⌜ r ≡ numberRises (rowsBy (now (run .entry)) rows) j ⌝ }
 {
@@ -74,7 +74,7 @@ fn number_rises(run: &[u8], rows: Spacing, j: u16) -> bool
     before < octets::u16_at(run, rows::row_offset(run, rows, j))
 }
 
-// Whether the values of row j of the links keep their rules among n accounts. Smax is that of the link's own account.
+// Whether the values of row j of the links keep their rules among n accounts, by the Smax of the link's own account.
 pub fn link_good(
     accounts: &[u8],
     account_rows: Spacing,

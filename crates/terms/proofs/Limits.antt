@@ -1,5 +1,5 @@
--- What the limits of an account's values say of its products: every one fits 32 bits. The modes share all of it but the charge
--- added: the products are bounded once, over that. Assumes nothing.
+-- What the limits of an account's values say of its products: every product fits 32 bits. The modes share all of this
+-- but the charge added: the products are bounded once, over the charge added. Assumes nothing.
 use Prim.Native.Nat.{ℕ, _+_, _*_, _^_, _≤_, _<_}
 use mathlib.Core.Bool.{Bool, true, false}
 use mathlib.Core.Path.{_≡_, sym, _∙_}
@@ -36,7 +36,7 @@ limits p e =
       mode-high = leb-true _ _ (d .1);
     }
 
--- the test, as the code makes it
+-- the test of the limits, as the code makes it
 module _ (p : Terms) where
   pub smax-below : p .smax < smallestFrame → false ≡ termsGood p
   unfolding termsGood
@@ -61,7 +61,7 @@ module _ (p : Terms) where
         unfolding termsGood
         mode-tested h = simp (le-leb _ _ h1, le-leb _ _ h2, le-leb _ _ h3, le-leb _ _ h)
 
--- they are all that is tested
+-- values within all limits pass the test
 pub are-good-by : (p : Terms) → Limits p → termsGood p ≡ true
 are-good-by p l =
     sym (mode-tested p (l .smax-low) (l .smax-high) (l .k-high) (l .jitter-high)) ∙ le-leb _ _ (l .mode-high)
@@ -99,7 +99,8 @@ added-high m =
 most-charged : (m x : ℕ) → x ≤ largestFrame + added m → x ≤ largestCharge
 most-charged m x h = let e = added-high m in omega arith
 
--- ---- the charge of octets, whatever is added: no less than these, no more than the largest frame's; more octets are charged no less
+-- ---- the charge of octets, whatever is added: no less than the octets, no more than the largest frame's charge; more
+-- octets are charged no less
 module _ (m n : ℕ) where
   charge-high : n ≤ largestFrame → charge m n ≤ largestFrame + added m
   unfolding charge
@@ -113,7 +114,7 @@ module _ (m n : ℕ) where
   unfolding charge
   charge-rises o h = omega arith
 
-  -- as the code takes it
+  -- the charge as the code takes it
   pub charge-plain : m < lineByteMode → n ≡ charge m n
   unfolding charge
   charge-plain h = let e = added-none m h in omega arith
@@ -132,7 +133,7 @@ module _ (p : Terms) (l : Limits p) where
   unfolding rate
   rate-low = le-trans (omega arith) (le-trans (l .smax-low) (charge-low (p .mode) (p .smax)))
 
-  -- what is charged for a frame is the charge of its octets or of Smax
+  -- what is charged for a frame is the charge of the frame's octets or of Smax
   charged-by : (n : ℕ) (P : ℕ → Type 0) → P (charge (p .mode) n) → P (rate p) → P (charged p n)
   unfolding rate charged
   charged-by n P f g = split (byOctets (p .mode)) (λ e. simp e f) (λ e. simp e g)
@@ -170,7 +171,7 @@ module _ (p : Terms) (l : Limits p) where
   unfolding cost
   cost-high n h = mul-le-mul (most-charged (p .mode) (charged p n) (charged-high n h)) (bag-high (p .k) (l .k-high))
 
-  -- a frame costs something, and one of at most Smax no more than a full account holds
+  -- a frame costs something, and a frame of at most Smax costs no more than a full account holds
   pub cost-low : (n : ℕ) → 1 ≤ n → 1 ≤ cost p n
   unfolding cost
   cost-low n h = one-le-mul (charged-low n h) bag-low

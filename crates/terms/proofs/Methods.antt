@@ -1,4 +1,4 @@
--- Laws of the values' methods: by the limits, and as the code takes them. Assumes nothing.
+-- Laws of the methods of an account's values: by the limits, and as the code takes the products. Assumes nothing.
 use Prim.Native.Nat.{ℕ, _+_, _*_, _^_, _≤_, _<_}
 use mathlib.Core.Bool.{Bool, true, false, not}
 use mathlib.Core.Path.{_≡_, sym, _∙_}
@@ -42,7 +42,7 @@ module _ (p : Terms) (t : Bool) (e : t ≡ termsGood p) where
       pub window-fits : b + p .jitter < 2 ^ 32
       window-fits = omega (arith, f, window-high p limits-tested)
 
-      -- the capacity, by the rate r
+      -- the capacity, from the rate r
       module _ (r : ℕ) (g : r ≡ rate p) where
         pub full-given : r * (b + p .jitter) ≡ checkedCapacity p
         unfolding capacity
@@ -63,7 +63,7 @@ module _ (p : Terms) (t : Bool) (e : t ≡ termsGood p) where
         pub frame-high : n ≤ largestFrame
         frame-high = within n framed .1
 
-        -- the cost, by what is charged, x
+        -- the cost, from the charge x
         module _ (b : ℕ) (f : b ≡ bag (p .k)) (x : ℕ) (g : x ≡ charged p n) where
           pub product-given : x * b ≡ checkedCost p n
           unfolding cost

@@ -25,7 +25,7 @@ FormulasByMode =
     × Formulas (termsWith s k j 2) (s + 20) (λ n. n + 20)
     × Formulas (termsWith s k j 3) (s + 20) (λ n. s + 20)
 
--- the largest capacity, and values that have it; without line octets it is document 01's
+-- the largest capacity, and values that have it; without line octets document 01's largest
 abbrev pub largestTerms : ℕ → Terms
 largestTerms mode = termsWith 1518 7 10000 mode
 
@@ -47,13 +47,13 @@ CostLargest =
     ((p : Terms) (n : ℕ) → termsGood p ≡ true → n ≤ 1518 → cost p n ≤ 196864000)
     × (map (λ m. cost (largestTerms m) 1518) (0 ∷ 1 ∷ 2 ∷ 3 ∷ []) ≡ 194304000 ∷ 194304000 ∷ 196864000 ∷ 196864000 ∷ [])
 
--- the limits exactly: each is one of its value alone, and Smax has the same in every mode
+-- the limits exactly: each limit is about one value alone, and Smax has the same limits in every mode
 abbrev pub TermsLimits : Type 0
 TermsLimits =
     (p : Terms)
     → (termsGood p ≡ true) ↔ ((64 ≤ p .smax) × (p .smax ≤ 1518) × (p .k ≤ 7) × (p .jitter ≤ 10000) × (p .mode ≤ 3))
 
--- what the methods give: the formulas' values within limits and of a frame's size, else 0
+-- what the methods give: the values of the formulas within limits and for a frame's size, else 0
 abbrev pub CheckedMethods : Type 0
 CheckedMethods =
     (p : Terms) (n : ℕ)

@@ -9,7 +9,7 @@ use Rattle.frame.specs.Limits.{smallestFrame, largestFrame}
 use Rattle.frame.specs.Frame.{lengthCode}
 use Rattle.terms.specs.declared.Terms.{Terms}
 
--- Smax in octets, k of the BAG, jitter in microseconds, mode
+-- an account's values: Smax in octets, k of the BAG, jitter in microseconds, mode
 abbrev pub termsWith : ℕ → ℕ → ℕ → ℕ → Terms
 termsWith smax k jitter mode = record { smax = smax; k = k; jitter = jitter; mode = mode }
 
@@ -20,7 +20,7 @@ largestK = 7
 abbrev pub largestJitter : ℕ
 largestJitter = 10000
 
--- the modes: byte mode and frame mode, and from 2 on the same with line octets (Q-3). No mode is above the last
+-- the modes: byte mode and frame mode, and from 2 on both with line octets (Q-3). No mode is above the last
 abbrev pub byteMode : ℕ
 byteMode = 0
 
@@ -33,7 +33,7 @@ lineByteMode = 2
 abbrev pub lineFrameMode : ℕ
 lineFrameMode = 3
 
--- the values keep their limits, Smax those of a frame
+-- whether the values keep their limits; those of Smax are a frame's
 unfoldable pub termsGood : Terms → Bool
 termsGood p =
     leb smallestFrame (p .smax)
@@ -70,7 +70,7 @@ rate p = charge (p .mode) (p .smax)
 unfoldable pub capacity : Terms → ℕ
 capacity p = rate p * (bag (p .k) + p .jitter)
 
--- the modes that charge a frame by its own octets; the others charge Smax for it
+-- whether a mode charges a frame by its own octets; the other modes charge Smax for a frame
 unfoldable pub byOctets : ℕ → Bool
 byOctets mode = eqb mode byteMode || eqb mode lineByteMode
 
@@ -78,7 +78,7 @@ byOctets mode = eqb mode byteMode || eqb mode lineByteMode
 unfoldable pub charged : Terms → ℕ → ℕ
 charged p n = charge (p .mode) (if byOctets (p .mode) then n else p .smax)
 
--- cost = what is charged × BAG
+-- cost = octets charged × BAG
 unfoldable pub cost : Terms → ℕ → ℕ
 cost p n = charged p n * bag (p .k)
 

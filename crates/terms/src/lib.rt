@@ -7,13 +7,13 @@ ghost use Rattle.terms.specs.Terms.{largestK, bag, termsGood, charge, ra
 // The BAG of k 0, in microseconds.
 const SHORTEST_BAG: u32 = 1000;
 
-// The limits of k and of the jitter in microseconds; those of Smax are a frame's.
+// The largest k, and the largest jitter in microseconds; the limits of Smax are a frame's.
 const LARGEST_K: u8 = 7;
 
 const LARGEST_JITTER: u16 = 10000;
 
 // The modes. In byte mode a frame costs by its own octets, in frame mode, 1, by Smax; from `LINE_BYTE_MODE` on, line
-// octets are counted with them. No mode is above the last.
+// octets are counted too. No mode is above `LINE_FRAME_MODE`.
 const BYTE_MODE: u8 = 0;
 
 const LINE_BYTE_MODE: u8 = 2;
@@ -23,7 +23,7 @@ const LINE_FRAME_MODE: u8 = 3;
 // What the line takes beside a frame's octets: preamble, start delimiter, and the gap between frames.
 const LINE_OCTETS: u32 = 20;
 
-// Smax in octets, k of a BAG of 2^k milliseconds, jitter in microseconds, mode.
+// The values of an account: Smax in octets, k of a BAG of 2^k milliseconds, jitter in microseconds, mode.
 pub struct Terms {
     pub smax: u16,
     pub jitter: u16,
@@ -39,7 +39,7 @@ fn bag_of(k: u8) -> u32
     SHORTEST_BAG << k
 }
 
-// What is charged for so many octets, by mode.
+// The octets charged for a number of octets, by mode.
 fn charge(mode: u8, octets: u16) -> u32
     ensures { λ r. ⌜ r ≡ charge mode octets ⌝ }
 {
@@ -86,7 +86,7 @@ impl Terms {
         charge(self.mode, self.smax)
     }
 
-    // What is charged for a frame: its own octets, or Smax.
+    // The octets charged for a frame: its own octets, or Smax.
     fn charged(self, octets: u16) -> u32
         ensures { λ r. ⌜ r ≡ charged self octets ⌝ }
     {
@@ -96,8 +96,8 @@ impl Terms {
         self.rate()
     }
 
-    // The capacity; 0 where the values break a limit. Values within limits have 64 x 1,000 or more, so 0 always means
-    // broken.
+    // The capacity; 0 where the values break a limit. Values within limits have 64 x 1,000 or more, so 0 always means a
+    // broken limit.
     pub fn capacity(self) -> u32
         ensures { λ r. ⌜ r ≡ checkedCapacity self ⌝ }
     {

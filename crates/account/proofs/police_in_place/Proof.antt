@@ -1,6 +1,6 @@
--- `police_in_place`, walked by hand: a reference to a struct is not covered. The borrow is opened, the account is copied and
--- passed to `police`, the credit and the last time of the account that comes back are stored, and the borrow is closed. All
--- that the walk knows of `police` is its contract. Assumes nothing.
+-- `police_in_place`, walked by hand, since the checker doesn't walk a reference to a struct. The borrow is opened, the
+-- account is copied and passed to `police`, the credit and the last time of the account that comes back are stored, and
+-- the borrow is closed. All that the walk knows of `police` is its contract. Assumes nothing.
 use mathlib.Core.Path.{_≡_, refl, ap, sym, _∙_}
 use Prim.Native.Nat.{ℕ, _<_, _^_}
 use mathlib.Core.List.{[], _∷_, List}
@@ -67,7 +67,7 @@ abbrev stayed : Stays (f.ended .signature .params) (f.ended .kept)
 stayed = (stay-ref (0 ∷ []) tt (plain (λ _. T.the-row)), (stay-none (λ _. usize) yes, (stay-none (λ _. u64) yes, tt)))
 
 module _ {M : Type 1} (𝓤 : URA M) (H : Heap 𝓤) (A : Atoms 𝓤) (at-mem : Memory → SProp 𝓤) (run : Routine → Fun 𝓤) where
-  -- the contract that the proof cites, and of what it ensures the clause alone
+  -- the contract that the proof cites, and the one clause that the contract ensures
   abbrev Police : Contract 𝓤
   Police = tripleOf 𝓤 H A police.signature (police.spec 𝓤 H A at-mem run)
 
@@ -90,7 +90,7 @@ module _ {M : Type 1} (𝓤 : URA M) (H : Heap 𝓤) (A : Atoms 𝓤) (W : Given
   abbrev ofO : Policed → List Val
   ofO r = EL.vals O.the-type O′.the-laws (r .outcome)
 
-  -- the account with the credit and the last time of the one that came back
+  -- the account with the credit and the last time of the account that `police` gave
   abbrev next : Policed → Account
   next r = holding h (r .account .credit) (r .account .last)
 
@@ -154,7 +154,8 @@ module _ {M : Type 1} (𝓤 : URA M) (H : Heap 𝓤) (A : Atoms 𝓤) (W : Given
         move ! (13 ∷ []) $ fsplit ! $ fsplit3 ! $ drop ! $ move ! (15 ∷ []) $ split ! $ move ! (2 ∷ 3 ∷ 0 ∷ []) $
         opens ! tt T.the-row {h = h} b o (λ vs. spelt ! T.the-row (Is T.the-row) (shows 𝓤 H A T.the-row) (LL.vals T.the-type T′.the-laws) (LL.tells T.the-type T′.the-laws) fullShare h vs b o $
         move ! (1 ∷ []) $ peeks ! T.the-row (Is T.the-row) (shows 𝓤 H A T.the-row) h (ofA h) (λ was. move ! (1 ∷ 0 ∷ []) $
-        -- [the account's cell; what it owns; the open borrow; obs; auth; true; the other parameters'; _5; …; _4; …; _3; …; _2; …; _1; …; room for _0; …]
+        -- [the account's cell; what it owns; the open borrow; obs; auth; true; the other parameters'; _5; …; _4; …; _3;
+        -- …; _2; …; _1; …; room for _0; …]
         assigns ! (of-opd ! (load ! (from ! (hop ! (look ! 15 refl) (stop !))) (look-raw ! 0 refl))) (from ! (stop !)) (init ! 7 refl (LL.lawful T.the-type T′.the-laws 𝓤 H A W .typed h _ was .0)) $
         nothing ! $ use1 W (raw (Police 𝓤 H A at-mem run .pre to-police)) (goes-police was) $
         calls-at ! fm (Police 𝓤 H A at-mem run) known to-police (and-then ! (load ! (from ! (stop !)) (look ! 8 refl)) (and-then ! (load ! (from ! (stop !)) (look ! 14 refl)) (and-then ! (load ! (from ! (stop !)) (look ! 12 refl)) (no-more !)))) (λ v.

@@ -1,4 +1,4 @@
--- `refilled`: the cut time fills as the whole time does. Assumes nothing.
+-- `refilled`: the cut time fills the account as the whole time does. Assumes nothing.
 use Rattle.account.proofs.Refill.{gain-fits, held-fits, refilled-full, refilled-below}
 use borrow.Author.Needs.{needs}
 use Rattle.account.proofs.refilled.Statement.{statement}

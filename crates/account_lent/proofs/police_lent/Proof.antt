@@ -1,6 +1,6 @@
--- `police_lent`, walked by hand: a reference to a struct is not covered. The account is copied into a local, the local is lent for
--- a lifetime made for the call, and after the call the account is taken back as `police_in_place` left it. All that the walk knows
--- of `police_in_place` is its contract. Assumes nothing.
+-- `police_lent`, walked by hand, since the checker doesn't walk a reference to a struct. The account is copied into a
+-- local, the local is lent for a lifetime made for the call, and after the call the account is taken back as
+-- `police_in_place` left it. All that the walk knows of `police_in_place` is its contract. Assumes nothing.
 use mathlib.Core.Path.{_≡_, refl, ap, subst}
 use Prim.Native.Nat.{ℕ, _<_, _^_}
 use mathlib.Core.List.{[], _∷_, List}
@@ -63,7 +63,7 @@ use Rattle.account_lent.proofs.police_lent.Code as code
 abbrev stayed : Stays (f.ended .signature .params) (f.ended .kept)
 stayed = (stay-none (λ _. T.the-row) yes, (stay-none (λ _. usize) yes, (stay-none (λ _. u64) yes, tt)))
 
--- the values that the callee's clause binds: the account that it leaves
+-- the values that the callee's clause binds: the account that the callee leaves
 abbrev Zs : Type 0
 Zs = Account × (Unit {0} × (Unit {0} × Unit {0}))
 
@@ -94,7 +94,7 @@ module _ {M : Type 1} (𝓤 : URA M) (H : Heap 𝓤) (A : Atoms 𝓤) (W : Given
   abbrev Post : Val → SProp 𝓤
   Post = walkOf 𝓤 H A f.ended stayed (f.clauses 𝓤 H A at-mem run) .post ((tt, tt, tt, x, at), tt)
 
-  -- the result: the callee's answer, and the account that it left
+  -- the result: the callee's answer, and the account that the callee left
   abbrev made : Outcome → Account → Policed
   made r z = record { outcome = r; account = z }
 
@@ -149,14 +149,14 @@ module _ {M : Type 1} (𝓤 : URA M) (H : Heap 𝓤) (A : Atoms 𝓤) (W : Given
         move ! (2 ∷ 0 ∷ []) $ use2 W (raw (InPlace 𝓤 H A at-mem run .pre (to α l₄ γ))) (goes-in α l₄ γ) $
         calls-at ! fm (InPlace 𝓤 H A at-mem run) known (to α l₄ γ) (and-then ! (load ! (from ! (stop !)) (look ! 4 refl)) (and-then ! (load ! (from ! (stop !)) (look ! 11 refl)) (and-then ! (load ! (from ! (stop !)) (look ! 9 refl)) (no-more !)))) (λ v.
         use1 W (later (some (λ (r : Outcome). ((‵ (flft (α ∷ []) fullShare) ⊛ ‵ ftrue) ⊛ ‵ (O.the-row .own r (v ∷ []))) ⊛ raw (ensured 𝓤 H A in-place.ended (in-place.clauses 𝓤 H A at-mem run) (α ∷ [], tt) (lent l₄ γ, (n, (t, tt))) tt r)))) (id⊢ 𝓤 _) $ await ! tt $ pick ! (λ r.
-        -- what the callee ensures, at the account that it leaves
+        -- what the callee ensures, at the account that the callee leaves
         split ! $ move ! (1 ∷ []) $ use1 W (some (λ (zs : Zs). ‵ (lasts in-place.ended (α ∷ [], tt) (lent l₄ γ, (n, (t, tt))) zs) ⊛ raw (fact 𝓤 (Said r zs)))) (id⊢ 𝓤 _) $ pick ! (λ zs.
         split ! $ move ! (1 ∷ []) $ heard ! (Said r zs) (λ e. fsplit ! $ move ! (1 ∷ []) $ drop ! $
         move ! (1 ∷ []) $ split ! $ split ! $ move ! (2 ∷ []) $ peeks ! O.the-row (Is O.the-row) (shows 𝓤 H A O.the-row) r (v ∷ []) (λ is.
         -- [the answer; the token; true; the last value; the lender's part; _7 at 5; …; _5 at 9; …]
         land ! (from ! (stop !)) (init ! 9 refl (EL.lawful O.the-type O′.the-laws 𝓤 H A W tt .typed r _ is .0)) $
         rewrite ! 9 (λ (u : Val). ‵ (fat fullShare O′.mir l₅ 0 u)) (ap only (EL.tells O.the-type O′.the-laws r (v ∷ []) is)) refl $ drop ! $
-        -- the lifetime is ended, and the account is taken back as it was left
+        -- the lifetime is ended, and the account is taken back as the callee left it
         lft-end ! tt $ move ! (0 ∷ 3 ∷ 2 ∷ []) $ use3 W (later (‵ (partAt T.the-row fullShare (zs .0) l₄ 0))) (ref-back 𝓤 H A W T.the-row (α ∷ []) γ (zs .0) l₄ 0) $ await ! tt $
         use1 W (some (λ (u : Val). ‵ (fat fullShare T′.mir l₄ 0 u) ⊛ ‵ (T.the-row .own (zs .0) (u ∷ [])))) (part-out 𝓤 H A W T.the-row refl fullShare (zs .0) l₄ 0) $ pick ! (λ u. split ! $ move ! (1 ∷ []) $
         peeks ! T.the-row (Is T.the-row) (shows 𝓤 H A T.the-row) (zs .0) (u ∷ []) (λ held. drop ! $

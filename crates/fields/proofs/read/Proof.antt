@@ -1,4 +1,4 @@
--- `read`: nothing past the end, else part by part. Assumes nothing.
+-- `read`: all zeros past the end, else part by part. Assumes nothing.
 use Rattle.fields.proofs.Fields.{field-past, field-is}
 use borrow.Author.Needs.{needs}
 use Rattle.fields.proofs.read.Statement.{statement}

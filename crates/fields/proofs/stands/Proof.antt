@@ -1,4 +1,4 @@
--- `stands`: the room for all of it, the tag, the length. Assumes nothing.
+-- `stands`: room for the whole field, then the tag, then the length. Assumes nothing.
 use Prim.Native.Nat.{_+_, _≤_}
 use native.Mathlib.Omega.{arith}
 use lib.ListN.{length}
@@ -9,7 +9,7 @@ use borrow.Author.Needs.{needs}
 use Rattle.fields.proofs.stands.Statement.{statement}
 use Rattle.fields.proofs.stands.Tie as tie
 
--- past the first test all of it is there
+-- the whole field is there after the first test
 whole : (c : tie.Else1) → c .before .before .before .args .at + (tagAndLength + c .before .before .before .args .size) ≤ length (c .before .before .before .args .run .now)
 whole c = has-room _ _ _ _ (c .before .has-room .ensures) (c .if1 .left)
 

@@ -1,4 +1,4 @@
--- `head`: by the code of the length. Assumes nothing.
+-- `head`: zeros where the length is refused, else the frame's values. Assumes nothing.
 use Rattle.frame.proofs.Frame.{header-refused, header-read, long-enough}
 use Prim.Native.Nat.{_≤_}
 use native.Mathlib.Omega.{arith}

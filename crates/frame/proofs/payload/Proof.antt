@@ -1,4 +1,5 @@
--- `payload`: by the code of the length; a frame that is read is long enough for its parts. Assumes nothing.
+-- `payload`: the empty part where the length is refused; a frame that is read is long enough for its parts. Assumes
+-- nothing.
 use Rattle.frame.proofs.Frame.{payload-refused, payload-read, long-enough}
 use Prim.Native.Nat.{_≤_}
 use native.Mathlib.Omega.{arith}

@@ -1,4 +1,4 @@
--- `head_code`: the checks of a field, of the head. Assumes nothing.
+-- `head_code`: the checks of a field, made of the head. Assumes nothing.
 use Rattle.image_field.proofs.Checks.{head-is}
 use borrow.Author.Needs.{needs}
 use Rattle.image_field.proofs.head_code.Statement.{statement}

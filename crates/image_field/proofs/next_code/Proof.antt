@@ -1,4 +1,4 @@
--- `next_code`: the checks of a field, of the one that comes next. Assumes nothing.
+-- `next_code`: the checks of a field, made of the field after so many accounts and links. Assumes nothing.
 use Rattle.image_field.proofs.Checks.{next-is}
 use borrow.Author.Needs.{needs}
 use Rattle.image_field.proofs.next_code.Statement.{statement}

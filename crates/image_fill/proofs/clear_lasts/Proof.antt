@@ -1,4 +1,5 @@
--- `clear_lasts`: nothing without room, else one by one. The loop's invariant: the first i are 0. Assumes nothing.
+-- `clear_lasts`: nothing without room, else one by one. The loop's invariant: the first i last times are 0. Assumes
+-- nothing.
 use Prim.Native.Nat.{ℕ, _-_}
 use mathlib.Core.List.{[], _∷_}
 use mathlib.Core.Path.{refl, sym}

@@ -1,4 +1,5 @@
--- `fill_credits`: nothing without room, else one by one. The loop's invariant: the first i are stored. Assumes nothing.
+-- `fill_credits`: nothing without room, else one by one. The loop's invariant: the first i credits are stored. Assumes
+-- nothing.
 use Prim.Native.Nat.{_-_}
 use mathlib.Core.Path.{refl, sym}
 use native.Mathlib.Nat.{zero-add, one-mul}

@@ -1,4 +1,4 @@
--- `field_offset`: the sum as it stands. Assumes nothing.
+-- `field_offset`: the sum of the definition. Assumes nothing.
 use Rattle.image_layout.specs.Layout.{fieldOffset}
 use mathlib.Core.Path.{refl}
 use borrow.Author.Needs.{needs}

@@ -1,4 +1,4 @@
--- `load`: the answer, and the runs filled by its counts, which are 0 after a refusal. Assumes nothing.
+-- `load`: the answer, and the runs filled by the answer's counts, which are 0 after a refusal. Assumes nothing.
 use native.Mathlib.Omega.{arith}
 use Rattle.image_load.proofs.Loading.{few-accounts-loaded, few-links-loaded, load-is}
 use borrow.Author.Needs.{needs}

@@ -11,7 +11,7 @@ use borrow.Author.Needs.{needs}
 use Rattle.image_octets.proofs.put_field.Statement.{statement}
 use Rattle.image_octets.proofs.put_field.Tie as tie
 
--- past the test there is room
+-- there is room after the test
 room : (c : tie.Else1) → c .before .before .before .before .args .at + (tagAndLength + c .before .before .before .before .args .size) ≤ length (c .before .before .before .before .args .room .now)
 room c = has-room _ _ _ _ (c .before .has-room .ensures) (c .if1 .left)
 

@@ -10,7 +10,7 @@ use borrow.Author.Needs.{needs}
 use Rattle.image_octets.proofs.put_head.Statement.{statement}
 use Rattle.image_octets.proofs.put_head.Tie as tie
 
--- past the test there is room
+-- there is room after the test
 room : (c : tie.Else1) → headSize ≤ length (c .before .before .before .args .room .now)
 room c = has-room-first _ _ _ (c .before .has-room .ensures) (c .if1 .left)
 

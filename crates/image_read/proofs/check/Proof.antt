@@ -1,4 +1,4 @@
--- `check`: the head, then the fields that are good, then the one that ends the reading. Assumes nothing.
+-- `check`: the head, then the good fields, then the field that ends the reading. Assumes nothing.
 use Rattle.image_read.proofs.Reading.{head-refused, head-passed}
 use borrow.Author.Needs.{needs}
 use Rattle.image_read.proofs.check.Statement.{statement}

@@ -1,7 +1,8 @@
--- `reader::load` meets its contract: a walk of its MIR, by hand. The outer borrow is opened, the image and the four runs are passed to the crate's `load`,
--- the offset that it answered is stored in the struct's cell, and the borrow is closed at the new record. The four runs go to the callee at their own
--- lifetimes, shares and names and are given up for good (`gave-slice`): what `load` says of their last lists is what is said of them at exit.
--- All that the proof knows of `load` is that it meets its contract. Assumes nothing.
+-- `image_reader::load` meets its contract: a walk of its MIR, by hand. The outer borrow is opened, the image and the
+-- four runs are passed to `image_load::load`, the offset that `image_load::load` answered is stored in the struct's
+-- cell, and the borrow is closed at the new record. The four runs go to the callee at their own lifetimes, shares and
+-- names and are given up for good (`gave-slice`): what the callee says of their last lists is what is said of the runs
+-- at exit. All that the proof knows of the callee is its contract. Assumes nothing.
 use mathlib.Core.Path.{_≡_, refl, ap, subst}
 use Prim.Native.Nat.{ℕ, _<_, _^_}
 use lib.ListN.{length}
@@ -62,7 +63,7 @@ use Rattle.image_reader.proofs.load as f
 use Rattle.image_reader.proofs.load.Statement as stated
 use Rattle.image_reader.proofs.load.Code as code
 
--- 'a, and the struct's type at it
+-- the lifetime 'a, and the struct's type at 'a
 abbrev α : Lft → NamedLft
 α κ′ = record { mir = named 1; lft = κ′ }
 
@@ -87,7 +88,7 @@ sv x = sliceVal (x .ptr) (length (x .now))
 abbrev Zs : Type 0
 Zs = Unit {0} × (List ℕ × (List ℕ × (List ℕ × (List ℕ × Unit {0}))))
 
--- a goal P ∗ (⌜φ⌝ ∗ ⌜ψ⌝), as two `ensures` make it: both are shown, and P is left
+-- a goal P ∗ (⌜φ⌝ ∗ ⌜ψ⌝), the form of two `ensures`: both facts are shown, and P is left
 says-both : {M : Type 1} {𝓤 : URA M} {H : Heap 𝓤} {A : Atoms 𝓤} {K : Type 0} {W : Given 𝓤 H A} {Γ : List (Item 𝓤)} → K → {φ ψ : Type 0} {P : SProp 𝓤} → φ → ψ → Step K W Γ (prop P) Γ (prop (sep 𝓤 P (sep 𝓤 (fact 𝓤 φ) (fact 𝓤 ψ))))
 says-both {𝓤 = 𝓤} t {φ} {ψ} {P} x z = step (λ s. suffices t _ (assoc∗ 𝓤 P (fact 𝓤 φ) (fact 𝓤 ψ)) $ says t z $ says t x $ s)
 
@@ -165,7 +166,7 @@ module _ {M : Type 1} (𝓤 : URA M) (H : Heap 𝓤) (A : Atoms 𝓤) (W : Given
       move ! (1 ∷ []) $ drop ! $ move ! (0 ∷ 3 ∷ []) $ fjoin ! $
       move ! (2 ∷ 0 ∷ []) $ use2 W (raw (LibLoad 𝓤 H A at-mem run .pre to)) asked $ frame ! $ done !)
 
-  -- image's part is kept, and at's facts are made anew
+  -- the image's part is kept, and the facts of the place are made anew
   again : (n : ℕ) → n < 2 ^ 64 → ent 𝓤 (sem 𝓤 H A Own) (sem 𝓤 H A (B κ′ .own (h′ n) (T′.lowered (h′ n) ∷ [])))
   again n ok = qed W (‵ Own ∷ []) ∵ owned ! usize (Is usize) (uint-makes 𝓤 H A W w64) n _ (refl, ok) $ move ! (1 ∷ 0 ∷ []) $ by ! (own-put 𝓤 H A W D L 1 vd n mach)
 
@@ -208,7 +209,8 @@ module _ {M : Type 1} (𝓤 : URA M) (H : Heap 𝓤) (A : Atoms 𝓤) (W : Given
         opens ! tt (B κ′) {h = h} b o (λ vs. spelt ! (B κ′) (Is (B κ′)) (shows 𝓤 H A (B κ′)) (LL.vals (T.the-type (α κ′)) (T′.the-laws (α κ′))) (LL.tells (T.the-type (α κ′)) (T′.the-laws (α κ′))) fullShare h vs b o $
         use1 W (‵ (fat fullShare (T′.mir erased) b o mach)) (W .laws .raw-at fullShare (T′.mir erased) b o mach) $
         move ! (1 ∷ []) $ peeks ! (B κ′) (Is (B κ′)) (shows 𝓤 H A (B κ′)) h (T′.lowered h ∷ []) (λ was. move ! (1 ∷ 0 ∷ []) $
-        -- [the struct's cell; what a Reader owns; the open borrow; obs; auth; the tokens; the runs; _15; …; _1 at 35; …; room for _0 at 37; …]
+        -- [the struct's cell; what a Reader owns; the open borrow; obs; auth; the tokens; the runs; _15; …; _1 at 35;
+        -- …; room for _0 at 37; …]
         assigns ! (of-opd ! (load ! (from ! (hop ! (look ! 35 refl) (fld ! refl (stop !)))) (look-in ! 0 (sub ! 0 refl (whole !))))) (from ! (stop !)) (init ! 23 refl (tt, LL.lawful (T.the-type (α κ′)) (T′.the-laws (α κ′)) 𝓤 H A W .typed h _ was .0 .1 .0)) $
         assigns ! (addr ! (from ! (fld ! refl (hop ! (look-in ! 33 (sub ! 0 refl (whole !))) (stop !))))) (from ! (stop !)) (init ! 21 refl (tt, tt)) $
         assigns ! (agg ! (and-then ! (load ! (from ! (stop !)) (look ! 21 refl)) (and-then ! (load ! (from ! (fld ! refl (stop !))) (look-in ! 33 (sub ! 1 refl (whole !)))) (no-more !)))) (from ! (stop !)) (init ! 19 refl (tt, (tt, (record { fits = m₁ .0 }, tt)))) $
@@ -219,7 +221,8 @@ module _ {M : Type 1} (𝓤 : URA M) (H : Heap 𝓤) (A : Atoms 𝓤) (W : Given
         assigns ! (addr ! (from ! (fld ! refl (hop ! (look-in ! 27 (sub ! 0 refl (whole !))) (stop !))))) (from ! (stop !)) (init ! 9 refl (tt, tt)) $
         assigns ! (agg ! (and-then ! (load ! (from ! (stop !)) (look ! 9 refl)) (and-then ! (load ! (from ! (fld ! refl (stop !))) (look-in ! 27 (sub ! 1 refl (whole !)))) (no-more !)))) (from ! (stop !)) (init ! 7 refl (tt, (tt, (record { fits = m₄ .0 }, tt)))) $
         move ! (1 ∷ 5 ∷ 6 ∷ []) $ use3 W (raw (LibLoad 𝓤 H A at-mem run .pre to) ⊛ ‵ Own) apart $ split ! $
-        -- [what the callee asks; what a Reader owns; the struct's cell; the open borrow; obs; auth; _15 at 6; …; _1 at 34; …; room for _0; …]
+        -- [what the callee asks; what a Reader owns; the struct's cell; the open borrow; obs; auth; _15 at 6; …; _1 at
+        -- 34; …; room for _0; …]
         calls-at ! fm (LibLoad 𝓤 H A at-mem run) known to (and-then ! (load ! (from ! (stop !)) (look ! 22 refl)) (and-then ! (load ! (from ! (stop !)) (look ! 18 refl)) (and-then ! (load ! (from ! (stop !)) (look ! 14 refl)) (and-then ! (load ! (from ! (stop !)) (look ! 10 refl)) (and-then ! (load ! (from ! (stop !)) (look ! 6 refl)) (no-more !)))))) (λ u.
         use1 W (later (some (λ (r : ImageAnswer). (toks ⊛ ‵ (S.the-row .own r (u ∷ []))) ⊛ raw (ensured 𝓤 H A lib-load.ended (lib-load.clauses 𝓤 H A at-mem run) (κ′, (κ₁, (κ₂, (κ₃, (κ₄, tt))))) given-args tt r)))) (id⊢ 𝓤 _) $ await ! tt $ pick ! (λ r.
         -- what the callee ensures, at some last lists
@@ -227,9 +230,11 @@ module _ {M : Type 1} (𝓤 : URA M) (H : Heap 𝓤) (A : Atoms 𝓤) (W : Given
         split ! $ move ! (1 ∷ []) $ heard ! (Said r zs) (λ e. fsplit ! $ drop ! $
         fsplit ! $ fsplit ! $ move ! (1 ∷ []) $ feqL ! (λ e₁. move ! (1 ∷ []) $ fsplit ! $ fsplit ! $ move ! (1 ∷ []) $ feqL ! (λ e₂. move ! (1 ∷ []) $
         fsplit ! $ fsplit ! $ move ! (1 ∷ []) $ feqL ! (λ e₃. move ! (1 ∷ []) $ fsplit ! $ fsplit ! $ move ! (1 ∷ []) $ feqL ! (λ e₄.
-        -- [the fourth's last list; true; the third's; the second's; the first's; the tokens and the answer; what a Reader owns; …]
+        -- [the fourth's last list; true; the third's; the second's; the first's; the tokens and the answer; what a
+        -- Reader owns; …]
         move ! (5 ∷ []) $ split ! $ move ! (1 ∷ []) $ peeks ! S.the-row (Is S.the-row) (shows 𝓤 H A S.the-row) r (u ∷ []) (λ is.
-        -- [the answer; the tokens; the fourth; true; the third; the second; the first; what a Reader owns; the struct's cell at 8; the open borrow; obs; auth; _15 at 12; …; _6 at 30; …; _1 at 40; …; room for _0 at 42; …]
+        -- [the answer; the tokens; the fourth; true; the third; the second; the first; what a Reader owns; the struct's
+        -- cell at 8; the open borrow; obs; auth; _15 at 12; …; _6 at 30; …; _1 at 40; …; room for _0 at 42; …]
         land ! (from ! (stop !)) (init ! 30 refl (LL.lawful S.the-type S′.the-laws 𝓤 H A W .typed r _ is .0)) $ rewrite ! 30 (λ (w : Val). ‵ (fat fullShare S′.mir l₆ 0 w)) (ap only (same r u is)) refl $
         assigns ! (of-opd ! (load ! (from ! (fld ! refl (stop !))) (look-in ! 30 (sub ! 1 refl (whole !))))) (from ! (hop ! (look ! 40 refl) (fld ! refl (stop !)))) (store-in ! 8 (sub ! 1 refl (whole !)) (tt, record { fits = offset-fits r u is })) $
         assigns ! (of-opd ! (load ! (from ! (stop !)) (look ! 30 refl))) (from ! (stop !)) (init ! 42 refl (LL.lawful S.the-type S′.the-laws 𝓤 H A W .typed r _ (is-at r u is) .0)) $
@@ -237,7 +242,8 @@ module _ {M : Type 1} (𝓤 : URA M) (H : Heap 𝓤) (A : Atoms 𝓤) (W : Given
         move ! (7 ∷ []) $ use1 W (‵ (B κ′ .own (h′ (r .offset)) (T′.lowered (h′ (r .offset)) ∷ []))) (again (r .offset) (offset-fits r u is)) $
         move ! (8 ∷ []) $ use1 W (‵ (cellAt fullShare (B κ′ .mir) (T′.lowered (h′ (r .offset)) ∷ []) b o)) (W .laws .at-raw fullShare (T′.mir erased) b o (T′.lowered (h′ (r .offset)))) $
         move ! (0 ∷ 1 ∷ 9 ∷ 10 ∷ 11 ∷ []) $ closes ! tt (B κ′) (h′ (r .offset)) (T′.lowered (h′ (r .offset)) ∷ []) b o $
-        -- [obs; the borrow; its token; the answer; the tokens; the fourth; true; the third; the second; the first; _15 at 10; …; _0 at 40; …]
+        -- [obs; the borrow; its token; the answer; the tokens; the fourth; true; the third; the second; the first; _15
+        -- at 10; …; _0 at 40; …]
         returns ! (look ! 40 refl) $ forget ! 10 refl $ forget ! 12 refl $ forget ! 14 refl $ forget ! 16 refl $ forget ! 18 refl $ forget ! 20 refl $ forget ! 22 refl $ forget ! 24 refl $
         forget ! 26 refl $ forget ! 28 refl $ forget ! 30 refl $ forget ! 32 refl $ forget ! 34 refl $ forget ! 36 refl $ forget ! 38 refl $ forget ! 40 refl $
         move ! (40 ∷ 41 ∷ []) $ free1 ! $ move ! (38 ∷ 39 ∷ []) $ free1 ! $ move ! (36 ∷ 37 ∷ []) $ free1 ! $ move ! (34 ∷ 35 ∷ []) $ free1 ! $ move ! (32 ∷ 33 ∷ []) $ free1 ! $ move ! (30 ∷ 31 ∷ []) $ free1 ! $

@@ -1,7 +1,8 @@
--- `load_from` meets its contract: a walk of its MIR, by hand. A `Reader` is made by `new` in a local, its place is stored, and it is lent to `load`
--- for a lifetime within the image's, made for the call; after the call it is taken back as `load` left it, and `at` reads its place.
--- The four runs go to `load` at their own lifetimes, shares and names and are given up for good (`gave-slice`).
--- All that the proof knows of `new`, `load` and `at` is that each meets its contract. Assumes nothing.
+-- `load_from` meets its contract: a walk of its MIR, by hand. A `Reader` is made by `new` in a local, the reader's
+-- place is stored, and the reader is lent to `load` for a lifetime within the image's, made for the call; after the
+-- call the reader is taken back as `load` left it, and `at` reads its place. The four runs go to `load` at their own
+-- lifetimes, shares and names and are given up for good (`gave-slice`). All that the proof knows of `new`, `load` and
+-- `at` is that each meets its contract. Assumes nothing.
 use mathlib.Core.Path.{_≡_, refl, ap, subst, _∙_}
 use Prim.Native.Nat.{ℕ, _<_, _^_}
 use lib.ListN.{length}
@@ -87,14 +88,14 @@ Sl = RefT (List ℕ)
 abbrev sv : Sl → Val
 sv x = sliceVal (x .ptr) (length (x .now))
 
--- what `load`'s clauses bind: the reader that it leaves, and the four lists
+-- what `load`'s clauses bind: the reader that `load` leaves, and the four lists
 abbrev Lists : Type 0
 Lists = List ℕ × (List ℕ × (List ℕ × (List ℕ × Unit {0})))
 
 abbrev Zs : Type 0
 Zs = Reader × Lists
 
--- a goal P ∗ (⌜φ⌝ ∗ ⌜ψ⌝), as two `ensures` make it: both are shown, and P is left
+-- a goal P ∗ (⌜φ⌝ ∗ ⌜ψ⌝), the form of two `ensures`: both facts are shown, and P is left
 says-both : {M : Type 1} {𝓤 : URA M} {H : Heap 𝓤} {A : Atoms 𝓤} {K : Type 0} {W : Given 𝓤 H A} {Γ : List (Item 𝓤)} → K → {φ ψ : Type 0} {P : SProp 𝓤} → φ → ψ → Step K W Γ (prop P) Γ (prop (sep 𝓤 P (sep 𝓤 (fact 𝓤 φ) (fact 𝓤 ψ))))
 says-both {𝓤 = 𝓤} t {φ} {ψ} {P} x z = step (λ s. suffices t _ (assoc∗ 𝓤 P (fact 𝓤 φ) (fact 𝓤 ψ)) $ says t z $ says t x $ s)
 
@@ -262,7 +263,7 @@ module _ {M : Type 1} (𝓤 : URA M) (H : Heap 𝓤) (A : Atoms 𝓤) (W : Given
         pass1 ! (init ! 36 refl (shr-slice-lawful 𝓤 H A W (named 0) κ u8 .typed s (v ∷ []) was .0)) $ pass1 ! (init ! 34 refl (tt, record { fits = p-fits })) $
         pass1 ! (init ! 32 refl (tt, (tt, (record { fits = m₁ .0 }, tt)))) $ pass1 ! (init ! 30 refl (tt, (tt, (record { fits = m₂ .0 }, tt)))) $
         pass1 ! (init ! 28 refl (tt, (tt, (record { fits = m₃ .0 }, tt)))) $ pass1 ! (init ! 26 refl (tt, (tt, (record { fits = m₄ .0 }, tt)))) $ pass0 ! $
-        -- what came in is taken apart: image is had twice, and the place's facts are made anew
+        -- the parameters are taken apart: the image is had twice, and the facts of the place are made anew
         move ! (40 ∷ []) $ split ! $ move ! (42 ∷ []) $ fsplit ! $ move ! (1 ∷ []) $ fsplit ! $ drop ! $ move ! (1 ∷ []) $
         use1 W (‵ Img ⊛ ‵ Img) (shr-slice-copy 𝓤 H A W (named 0) κ u8 .twice s (v ∷ [])) $ split ! $ move ! (3 ∷ 0 ∷ []) $
         use2 W (raw (New 𝓤 H A at-mem run .pre to-new)) goes-new $
@@ -271,7 +272,8 @@ module _ {M : Type 1} (𝓤 : URA M) (H : Heap 𝓤) (A : Atoms 𝓤) (W : Given
         use1 W (later (some (λ (r : Reader). ((‵ (flft κ q) ⊛ ‵ ftrue) ⊛ ‵ (B .own r (u ∷ []))) ⊛ raw (ensured 𝓤 H A new.ended (new.clauses 𝓤 H A at-mem run) (κ, tt) (s, tt) tt r)))) (id⊢ 𝓤 _) $ await ! tt $ pick ! (λ r.
         split ! $ move ! (1 ∷ []) $ use1 W (raw (fact 𝓤 ((r .image ≡ s) × (r .at ≡ 0)))) (new-said r) $ heard ! ((r .image ≡ s) × (r .at ≡ 0)) (λ e. split ! $ move ! (1 ∷ []) $
         peeks ! B (Is B) (shows 𝓤 H A B) r (u ∷ []) (λ is.
-        -- [what the reader owns; the image's token; what image owns; what the runs own; their tokens; _19 at 5; …; _9 at 25; …; _7 at 29; …; _2 at 39; …]
+        -- [what the reader owns; the image's token; what image owns; what the runs own; their tokens; _19 at 5; …; _9
+        -- at 25; …; _7 at 29; …; _2 at 39; …]
         land ! (from ! (stop !)) (init ! 25 refl (LL.lawful (T.the-type αᵉ) (T′.the-laws αᵉ) 𝓤 H A W .typed r _ is .0)) $
         rewrite ! 25 (λ (w : Val). ‵ (fat fullShare (T′.mir erased) l₉ 0 w)) (ap only (at-lowered r u is)) refl $ rewrite ! 0 (λ (us : List Val). ‵ (B .own r us)) (at-lowered r u is) refl $
         assigns ! (of-opd ! (load ! (from ! (stop !)) (look ! 25 refl))) (from ! (stop !)) (init ! 29 refl (LL.lawful (T.the-type αᵉ) (T′.the-laws αᵉ) 𝓤 H A W .typed r _ (reader-is r u is) .0)) $
@@ -290,40 +292,49 @@ module _ {M : Type 1} (𝓤 : URA M) (H : Heap 𝓤) (A : Atoms 𝓤) (W : Given
         move ! (29 ∷ 0 ∷ []) $ use2 W (‵ (partAt B fullShare (moved r) l₇ 0)) (part-in-at 𝓤 H A W B refl fullShare (moved r) l₇ 0 (T′.mir erased) refl (T′.lowered (moved r))) $
         lft-new ! tt (λ a. move ! (1 ∷ []) $
         use1 W (later (some (λ (γ : GName). ‵ (Ref (moved r) a l₇ γ) ⊛ ‵ (flent (a ∷ κ) (Body (mem B) l₇ 0 γ))))) (lends-ref 𝓤 H A W B (named 0) (a ∷ κ) (moved r) l₇ 0) $ await ! tt $ pick ! (λ γ. split ! $
-        -- [the reference; the lender's part; the new token; the image's token; what image owns; what the runs own; their tokens; _19 at 7; …]
+        -- [the reference; the lender's part; the new token; the image's token; what image owns; what the runs own;
+        -- their tokens; _19 at 7; …]
         move ! (3 ∷ []) $ split ! $ use1 W (‵ (flft κ (PosShare·left q)) ⊛ ‵ (flft κ (PosShare·right q))) (W .lfts .lft-split κ q) $ split ! $
         move ! (5 ∷ 0 ∷ []) $ use2 W (‵ (flft (a ∷ κ) (PosShare·left q)) ⊛ raw (Rest 𝓤 H A W a (PosShare·left q))) (within-token 𝓤 H A W a κ (PosShare·left q)) $ split ! $
-        -- [the token of the loan; the rest of the new one; half of the image's; true; the reference; the lender's part; what image owns; what the runs own; their tokens; _19 at 9; …]
+        -- [the token of the loan; the rest of the new one; half of the image's; true; the reference; the lender's part;
+        -- what image owns; what the runs own; their tokens; _19 at 9; …]
         move ! (2 ∷ 8 ∷ []) $ join ! $ move ! (1 ∷ 0 ∷ []) $ join ! $ move ! (0 ∷ 3 ∷ 6 ∷ []) $ use3 W (raw (Lend 𝓤 H A at-mem run .pre (to-load (moved r) a l₇ γ))) (goes-load (moved r) a l₇ γ) $
-        -- [what `load` asks; the rest of the new token; true; the lender's part; what image owns; _19 at 5; _18 at 7; …; _10 at 23; …; _7's end at 29; …]
+        -- [what `load` asks; the rest of the new token; true; the lender's part; what image owns; _19 at 5; _18 at 7;
+        -- …; _10 at 23; …; _7's end at 29; …]
         calls-at ! fm (Lend 𝓤 H A at-mem run) known-load (to-load (moved r) a l₇ γ) (and-then ! (load ! (from ! (stop !)) (look ! 23 refl)) (and-then ! (load ! (from ! (stop !)) (look ! 19 refl)) (and-then ! (load ! (from ! (stop !)) (look ! 15 refl)) (and-then ! (load ! (from ! (stop !)) (look ! 11 refl)) (and-then ! (load ! (from ! (stop !)) (look ! 7 refl)) (no-more !)))))) (λ u′.
         use1 W (later (some (λ (t : ImageAnswer). (toks-load (moved r) a l₇ γ ⊛ ‵ (S.the-row .own t (u′ ∷ []))) ⊛ raw (ensured 𝓤 H A lend.ended (lend.clauses 𝓤 H A at-mem run) (κs-load (moved r) a l₇ γ) (lent (moved r) a l₇ γ, xs) tt t)))) (id⊢ 𝓤 _) $ await ! tt $ pick ! (λ t.
-        -- what `load` ensures, at the reader and the lists that it leaves
+        -- what `load` ensures, at the reader and the lists that `load` leaves
         split ! $ move ! (1 ∷ []) $ use1 W (some (λ (zs : Zs). ‵ (lasts lend.ended (κs-load (moved r) a l₇ γ) (lent (moved r) a l₇ γ, xs) zs) ⊛ (raw (fact 𝓤 (Loaded (moved r) a l₇ γ t zs)) ⊛ raw (fact 𝓤 (Placed (moved r) a l₇ γ t zs))))) (id⊢ 𝓤 _) $ pick ! (λ zs.
         split ! $ move ! (1 ∷ []) $ split ! $ heard ! (Loaded (moved r) a l₇ γ t zs) (λ e′. heard ! (Placed (moved r) a l₇ γ t zs) (λ o. fsplit ! $ move ! (1 ∷ []) $
         fsplit ! $ fsplit ! $ move ! (1 ∷ []) $ feqL ! (λ n₁. move ! (1 ∷ []) $ fsplit ! $ fsplit ! $ move ! (1 ∷ []) $ feqL ! (λ n₂. move ! (1 ∷ []) $
         fsplit ! $ fsplit ! $ move ! (1 ∷ []) $ feqL ! (λ n₃. move ! (1 ∷ []) $ fsplit ! $ fsplit ! $ move ! (1 ∷ []) $ feqL ! (λ n₄.
-        -- [the fourth's last list; true; the third's; the second's; the first's; the reader's last value; the tokens and the answer; the rest of the new token; true; the lender's part; what image owns; _19 at 11; …]
+        -- [the fourth's last list; true; the third's; the second's; the first's; the reader's last value; the tokens
+        -- and the answer; the rest of the new token; true; the lender's part; what image owns; _19 at 11; …]
         move ! (6 ∷ []) $ split ! $ move ! (1 ∷ []) $ peeks ! S.the-row (Is S.the-row) (shows 𝓤 H A S.the-row) t (u′ ∷ []) (λ is-t.
         land ! (from ! (stop !)) (init ! 34 refl (LL.lawful S.the-type S′.the-laws 𝓤 H A W .typed t _ is-t .0)) $ rewrite ! 34 (λ (w : Val). ‵ (fat fullShare S′.mir l₈ 0 w)) (ap only (LL.tells S.the-type S′.the-laws t (u′ ∷ []) is-t)) refl $ drop ! $
-        -- [the tokens; the fourth; true; the third; the second; the first; the reader's last value; the rest of the new token; true; the lender's part; what image owns; _19 at 11; …]
+        -- [the tokens; the fourth; true; the third; the second; the first; the reader's last value; the rest of the new
+        -- token; true; the lender's part; what image owns; _19 at 11; …]
         split ! $ move ! (1 ∷ []) $ split ! $ move ! (2 ∷ 9 ∷ []) $
         use2 W (later (‵ (fdead (a ∷ κ)) ⊛ ‵ (flft κ (PosShare·left q)))) (within-end 𝓤 H A W a κ (PosShare·left q)) $ await ! tt $ split ! $
-        -- [the loan is over; half of the image's token; its other half; the runs' tokens; the fourth; true; the third; the second; the first; the reader's last value; true; the lender's part; what image owns; _19 at 13; …]
+        -- [the loan is over; half of the image's token; its other half; the runs' tokens; the fourth; true; the third;
+        -- the second; the first; the reader's last value; true; the lender's part; what image owns; _19 at 13; …]
         move ! (0 ∷ 11 ∷ 9 ∷ []) $ use3 W (later (‵ (partAt B fullShare (zs .0) l₇ 0))) (ref-back 𝓤 H A W B (a ∷ κ) γ (zs .0) l₇ 0) $ await ! tt $
         use1 W (some (λ (w : Val). ‵ (fat fullShare (T′.mir erased) l₇ 0 w) ⊛ ‵ (B .own (zs .0) (w ∷ [])))) (part-out-at 𝓤 H A W B refl fullShare (zs .0) l₇ 0 (T′.mir erased) refl) $ pick ! (λ w. split ! $ move ! (1 ∷ []) $
         peeks ! B (Is B) (shows 𝓤 H A B) (zs .0) (w ∷ []) (λ is-z.
         rewrite ! 0 (λ (us : List Val). ‵ (B .own (zs .0) us)) (at-lowered (zs .0) w is-z) refl $ rewrite ! 1 (λ (w′ : Val). ‵ (fat fullShare (T′.mir erased) l₇ 0 w′)) (ap only (at-lowered (zs .0) w is-z)) refl $
         move ! (2 ∷ 3 ∷ []) $ use2 W (‵ (flft κ q)) (W .lfts .lft-join κ q) $ move ! (0 ∷ 1 ∷ []) $ use2 W (raw (Place 𝓤 H A at-mem run .pre (to-place (zs .0)))) (goes-place (zs .0)) $
-        -- [what `at` asks; _7; the runs' tokens; the fourth; true; the third; the second; the first; true; what image owns; _19 at 10; …; _9 at 30; …]
+        -- [what `at` asks; _7; the runs' tokens; the fourth; true; the third; the second; the first; true; what image
+        -- owns; _19 at 10; …; _9 at 30; …]
         forget ! 30 refl $ assigns ! (of-opd ! (load ! (from ! (stop !)) (look ! 1 refl))) (from ! (stop !)) (init ! 30 refl (LL.lawful (T.the-type αᵉ) (T′.the-laws αᵉ) 𝓤 H A W .typed (zs .0) _ (reader-is (zs .0) w is-z) .0)) $
         calls-at ! fm (Place 𝓤 H A at-mem run) known-at (to-place (zs .0)) (and-then ! (load ! (from ! (stop !)) (look ! 30 refl)) (no-more !)) (λ u″.
         use1 W (later (some (λ (n : ℕ). ((‵ (flft κ q) ⊛ ‵ ftrue) ⊛ ‵ (usize .own n (u″ ∷ []))) ⊛ raw (ensured 𝓤 H A place.ended (place.clauses 𝓤 H A at-mem run) (κ, tt) (zs .0, tt) tt n)))) (id⊢ 𝓤 _) $ await ! tt $ pick ! (λ n.
         split ! $ move ! (1 ∷ []) $ use1 W (raw (fact 𝓤 (n ≡ zs .0 .at))) (place-said (zs .0) n) $ heard ! (n ≡ zs .0 .at) (λ o′. split ! $ split ! $ move ! (2 ∷ []) $
         peeks ! usize (Is usize) (shows 𝓤 H A usize) n (u″ ∷ []) (λ is-n.
-        -- [the number; the image's token; true; _7; the runs' tokens; the fourth; true; the third; the second; the first; true; what image owns; _19 at 12; …; _0 at 49]
+        -- [the number; the image's token; true; _7; the runs' tokens; the fourth; true; the third; the second; the
+        -- first; true; what image owns; _19 at 12; …; _0 at 49]
         land ! (from ! (stop !)) (init ! 12 refl (uint-lawful 𝓤 H A W w64 .typed n _ is-n .0)) $ rewrite ! 12 (λ (w′ : Val). ‵ (fat fullShare (tyInt w64) l₁₉ 0 w′)) (ap only (is-n .0)) refl $ drop ! $
-        -- [the image's token; true; _7; the runs' tokens; the fourth; true; the third; the second; the first; true; what image owns; _19 at 11; …; _8 at 33; …; _7's end; _6 at 36; …; room for _0 at 48; …]
+        -- [the image's token; true; _7; the runs' tokens; the fourth; true; the third; the second; the first; true;
+        -- what image owns; _19 at 11; …; _8 at 33; …; _7's end; _6 at 36; …; room for _0 at 48; …]
         assigns ! (agg ! (and-then ! (load ! (from ! (stop !)) (look ! 33 refl)) (and-then ! (load ! (from ! (stop !)) (look ! 11 refl)) (no-more !)))) (from ! (stop !))
         (init ! 48 refl (LL.lawful G.the-type G′.the-laws 𝓤 H A W .typed (made t n) _ (made-is t n (answer-is t u′ is-t) (is-n .1)) .0)) $
         returns ! (look ! 48 refl) $ forget ! 2 refl $ forget ! 11 refl $ forget ! 13 refl $ forget ! 15 refl $ forget ! 17 refl $ forget ! 19 refl $ forget ! 21 refl $ forget ! 23 refl $ forget ! 25 refl $ forget ! 27 refl $

@@ -1,4 +1,4 @@
--- `count_good`: test by test; the product is below the limit times a row. Assumes nothing.
+-- `count_good`: test by test; the product is at most the limit times a row's octets. Assumes nothing.
 use native.Mathlib.Omega.{arith}
 use Rattle.image_write.proofs.Answers.{count-none, count-over, count-tested}
 use Rattle.image_layout.proofs.Offsets.{small-product}

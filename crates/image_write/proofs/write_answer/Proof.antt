@@ -9,7 +9,7 @@ use borrow.Author.Needs.{needs}
 use Rattle.image_write.proofs.write_answer.Statement.{statement}
 use Rattle.image_write.proofs.write_answer.Tie as tie
 
--- past the first test the counts are good
+-- the counts are good after the first test
 counts : (c : tie.Else1) → countsGood (c .before .before .before .before .args .accounts .now) (c .before .before .before .before .args .n) (c .before .before .before .before .args .links .now) (c .before .before .before .before .args .m) ≡ true
 counts c = sym (c .before .counts-good .ensures) ∙ not-false _ (c .if1 .left)
 

@@ -1,4 +1,4 @@
--- `has_room`: by the size being over the length or not. Assumes nothing.
+-- `has_room`: one case for a size above the length, one for any other size. Assumes nothing.
 use Rattle.octets.proofs.Tests.{room-none, room-left}
 use Rattle.octets.proofs.has_room.Statement.{statement}
 use Rattle.octets.proofs.has_room.Tie as tie

@@ -1,4 +1,4 @@
--- `u16_at`: 2 octets that are there, or the first alone. Assumes nothing.
+-- `u16_at`: 2 octets inside the run, or the first octet alone. Assumes nothing.
 use Rattle.octets.proofs.Numbers.{number-first}
 use Rattle.octets.proofs.Tests.{fits, fits-not}
 use borrow.Author.Needs.{needs}

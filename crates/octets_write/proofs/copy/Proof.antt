@@ -1,4 +1,4 @@
--- `copy`: nothing without room, else by whether all the octets are there. Assumes nothing.
+-- `copy`: nothing without room, else by whether all the octets are inside the run. Assumes nothing.
 use Rattle.octets.proofs.Parts.{length-part}
 use Rattle.octets.proofs.Runs.{put-refused}
 use Rattle.octets.proofs.Tests.{fits, has-room}

@@ -9,7 +9,7 @@ use Rattle.octets.proofs.Tests.{has-room}
 use Rattle.octets_write.proofs.put_u16.Statement.{statement}
 use Rattle.octets_write.proofs.put_u16.Tie as tie
 
--- past the test there is room
+-- there is room after the test
 room : (c : tie.Else1) → c .before .before .before .args .at + 2 ≤ length (c .before .before .before .args .to .now)
 room c = has-room _ _ _ _ (c .before .has-room .ensures) (c .if1 .left)
 

@@ -1,4 +1,4 @@
--- `answer_by`: from the words read; each offset lies in the memory. Assumes nothing.
+-- `answer_by`: the answer from the words read; each index lies in the memory. Assumes nothing.
 use Prim.Native.Nat.{_+_, _<_}
 use native.Mathlib.Omega.{arith}
 use Rattle.receive.specs.Lent.{memoryWords}

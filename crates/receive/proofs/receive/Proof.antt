@@ -1,4 +1,4 @@
--- `receive`: by the row found, of which row and memory are lent whole. Assumes nothing.
+-- `receive`: by the row found; the row and its memory are lent whole. Assumes nothing.
 use Prim.Native.Nat.{_+_, _*_, _≤_}
 use native.Mathlib.Omega.{arith}
 use lib.ListN.{length}

@@ -1,4 +1,4 @@
--- `in_skew`: by its tests. Assumes nothing.
+-- `in_skew`: test by test. Assumes nothing.
 use borrow.Author.Tests.{lt-leb, ne-eqb}
 use Rattle.receive_answer.specs.Answer.{deliveryOf, inSkew}
 use Rattle.receive_answer.proofs.Answer.{skew-met, skew-age}

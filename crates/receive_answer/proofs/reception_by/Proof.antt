@@ -1,4 +1,4 @@
--- `reception_by`: by its tests. Assumes nothing.
+-- `reception_by`: test by test. Assumes nothing.
 use Rattle.receive_answer.proofs.Answer.{reception-late, reception-out, reception-copy, reception-delivered}
 use borrow.Author.Needs.{needs}
 use Rattle.receive_answer.proofs.reception_by.Statement.{statement}

@@ -1,4 +1,4 @@
--- `next`: by its test. Assumes nothing.
+-- `next`: one case for the greatest number, one for any other. Assumes nothing.
 use Rattle.receive_sequence.proofs.Passing.{next-wraps, next-adds}
 use borrow.Author.Needs.{needs}
 use Rattle.receive_sequence.proofs.next.Statement.{statement}

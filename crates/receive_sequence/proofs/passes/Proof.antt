@@ -1,4 +1,4 @@
--- `passes`: by its tests, the last number held in a word. Assumes nothing.
+-- `passes`: test by test; the last number is held in a word. Assumes nothing.
 use Rattle.receive_sequence.proofs.Passing.{passes-first, passes-zero, passes-forged, passes-one, passes-two}
 use borrow.Author.Needs.{needs}
 use Rattle.receive_sequence.proofs.passes.Statement.{statement}

@@ -1,4 +1,4 @@
--- `find`: the search among the rows in use, which are there whole. Assumes nothing.
+-- `find`: the search among the rows in use, which lie inside the run. Assumes nothing.
 use Prim.Native.Nat.{ℕ, _+_}
 use mathlib.Core.Path.{ap, _∙_}
 use Rattle.rows.specs.Rows.{numberOctets, tableOf, foundIn}

@@ -1,4 +1,4 @@
--- `row_offset`: the sum as it stands; the product of an octet and two octets is small. Assumes nothing.
+-- `row_offset`: the sum of the definition; the product of an octet and two octets is small. Assumes nothing.
 use native.Mathlib.Nat.{min-le-right}
 use native.Mathlib.Omega.{arith}
 use lib.ListN.{length}

@@ -1,4 +1,5 @@
--- `search`: two rows a turn, and one that may be left. The loop's invariant: none of the first i rows has the number. Assumes nothing.
+-- `search`: two rows a turn, then the one row that may be left. The loop's invariant: none of the first i rows has the
+-- number. Assumes nothing.
 use Prim.Native.Nat.{ℕ, suc, _+_, _*_, _-_, _≤_, _<_}
 use mathlib.Core.Path.{_≡_}
 use native.Mathlib.Numerals.{add-one}
@@ -19,7 +20,7 @@ Inv-loop rows width used number i₀ i = (i ≤ used) × (leading (otherNumber (
 abbrev μ-loop : tie.MeasureT-loop
 μ-loop rows width used number i₀ i = used - i
 
--- a row in use is inside the run
+-- a row in use lies inside the run
 inside : (c : tie.At-loop Inv-loop μ-loop) (k : ℕ) → k < c .before .before .args .used
     → c .before .before .args .width * k + c .before .before .args .width ≤ length (c .before .before .args .rows .now)
 inside c k h =

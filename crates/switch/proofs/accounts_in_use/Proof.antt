@@ -1,4 +1,4 @@
--- `accounts_in_use`: the least of four. Assumes nothing.
+-- `accounts_in_use`: the least of four numbers. Assumes nothing.
 use borrow.Author.Needs.{needs}
 use Rattle.switch.specs.Call.{inUseBy}
 use Rattle.switch.proofs.accounts_in_use.Statement.{statement}

@@ -1,4 +1,4 @@
--- `decide`: the link, the account, the port and the sizes, then the step. Assumes nothing.
+-- `decide`: the link, the account, the port and the sizes, then the account's `judge`. Assumes nothing.
 use Rattle.switch.proofs.Call.{decided-link, decided-account, decided-port, decided-step}
 use Rattle.account.proofs.Methods.{units-is}
 use borrow.Author.Needs.{needs}

@@ -1,4 +1,4 @@
--- `frame_call`: by its route; the account is in use where its credit and last time are stored. Assumes nothing.
+-- `frame_call`: by the frame's route; the account is in use where its credit and last time are stored. Assumes nothing.
 use Rattle.switch.proofs.Call.{used-credit, used-last, used-row, call-stopped, call-unused, link-sized, call-stored}
 use native.Mathlib.Omega.{arith}
 use borrow.Author.Needs.{needs}

@@ -1,4 +1,4 @@
--- `kept`: what the account holds is kept. Assumes nothing.
+-- `kept`: the credit and the last time that the account holds. Assumes nothing.
 use borrow.Author.Needs.{needs}
 use Rattle.switch.proofs.kept.Statement.{statement}
 use Rattle.switch.proofs.kept.Tie as tie

@@ -1,4 +1,4 @@
--- `link_at`: the row itself, or its octets with zeros after them. Assumes nothing.
+-- `link_at`: the row read directly if complete, otherwise zero-padded. Assumes nothing.
 use mathlib.Core.Path.{_∙_}
 use native.Mathlib.Omega.{arith}
 use Rattle.octets.proofs.Tests.{fits}

@@ -1,4 +1,4 @@
--- `look_up`: the row found, which is there. Assumes nothing.
+-- `look_up`: the row found, which lies inside the run. Assumes nothing.
 use native.Mathlib.Omega.{arith}
 use Rattle.tables.proofs.Lookups.{found-inside, lookup-absent, lookup-present}
 use borrow.Author.Needs.{needs}

@@ -1,4 +1,4 @@
--- `terms_at`: the row itself, or its octets with zeros after them. Assumes nothing.
+-- `terms_at`: the row read directly if complete, otherwise zero-padded. Assumes nothing.
 use mathlib.Core.Path.{_∙_}
 use native.Mathlib.Omega.{arith}
 use Rattle.octets.proofs.Tests.{fits}

@@ -1,4 +1,4 @@
--- `brought_to`: a credit without room for more stays; any other is refilled. Assumes nothing.
+-- `brought_to`: an account at capacity keeps its credit; any other account is refilled. Assumes nothing.
 use Rattle.account.proofs.Methods.{brought-full, brought-refilled}
 use borrow.Author.Needs.{needs}
 use Rattle.account.proofs.Account.brought_to.Statement.{statement}

@@ -1,4 +1,4 @@
--- `capacity`: by the credit, once the capacity of the values is in hand. Assumes nothing.
+-- `capacity`: 0 where the credit is above the capacity of the values, else that capacity. Assumes nothing.
 use Rattle.account.proofs.Methods.{credit-over, credit-within}
 use borrow.Author.Needs.{needs}
 use Rattle.account.proofs.Account.capacity.Statement.{statement}

@@ -1,4 +1,4 @@
--- `cost`: by the account, then as its values cost. Assumes nothing.
+-- `cost`: 0 for an unsound account, else the cost that the account's values give. Assumes nothing.
 use Rattle.account.proofs.Methods.{units-is, cost-none, cost-some}
 use borrow.Author.Needs.{needs}
 use Rattle.account.proofs.Account.cost.Statement.{statement}

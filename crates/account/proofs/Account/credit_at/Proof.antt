@@ -1,4 +1,4 @@
--- `credit_at`: the refill of the time since. Assumes nothing.
+-- `credit_at`: the refill of the time since the last frame. Assumes nothing.
 use Rattle.account.proofs.Methods.{credit-at}
 use borrow.Author.Needs.{needs}
 use Rattle.account.proofs.Account.credit_at.Statement.{statement}

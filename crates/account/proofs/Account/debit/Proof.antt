@@ -1,4 +1,4 @@
--- `debit`: by the credit being enough or short. Assumes nothing.
+-- `debit`: one case for a credit that covers the cost, one for a credit that is short. Assumes nothing.
 use Rattle.account.proofs.Methods.{units-is, debit-enough, debit-short}
 use borrow.Author.Needs.{needs}
 use Rattle.account.proofs.Account.debit.Statement.{statement}

@@ -1,4 +1,4 @@
--- `police`: the length, the account, and then what is decided. Assumes nothing.
+-- `police`: the length is tested, then the account; `judge` decides the rest. Assumes nothing.
 use Prim.Native.Nat.{ℕ}
 use mathlib.Core.Path.{_≡_, sym, ap, _∙_}
 use borrow.Author.Tests.{eq-eqb}
@@ -10,7 +10,7 @@ use borrow.Author.Needs.{needs}
 use Rattle.account.proofs.Account.police.Statement.{statement}
 use Rattle.account.proofs.Account.police.Tie as tie
 
--- past the first test the length is good
+-- the length's code is 0 after the first test
 good : (r n : ℕ) → r ≡ lengthCode n → r ≡ 0 → lengthCode n ≡ 0
 good r n e z = sym e ∙ z
 

@@ -1,4 +1,4 @@
--- `top_up`: by the account, then by the time. Assumes nothing.
+-- `top_up`: the account is tested, then the time. Assumes nothing.
 use Rattle.account.proofs.Methods.{units-is, none-unsound, some-sound, some-capacity, top-up-unsound, top-up-late, top-up-sound}
 use borrow.Author.Needs.{needs}
 use Rattle.account.proofs.Account.top_up.Statement.{statement}

@@ -1,4 +1,4 @@
--- `ashthulgo_capacity`: that of the account made. Assumes nothing.
+-- `ashthulgo_capacity`: the capacity of the account made. Assumes nothing.
 use mathlib.Core.Path.{ap, _∙_}
 use Rattle.account.specs.Account.{capacityOf}
 use Rattle.account.proofs.Methods.{units-is}

@@ -1,4 +1,4 @@
--- `ashthulgo_cost`: that of the account made. Assumes nothing.
+-- `ashthulgo_cost`: the cost by the account made. Assumes nothing.
 use mathlib.Core.Path.{ap, _∙_}
 use Rattle.account.specs.Account.{costOf}
 use Rattle.account.specs.declared.Account.{Account}

@@ -1,4 +1,4 @@
--- `ashthulgo_reader_load`: what loading through a reader answers, reported, and its place. Assumes nothing.
+-- `ashthulgo_reader_load`: what loading through a reader answers, reported, and the reader's place. Assumes nothing.
 use Rattle.exports.proofs.Answers.{load-done, place-done}
 use borrow.Author.Needs.{needs}
 use Rattle.exports.proofs.images.ashthulgo_reader_load.Statement.{statement}

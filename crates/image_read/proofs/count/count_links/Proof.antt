@@ -1,4 +1,5 @@
--- `count_links`: none without accounts, else field by field. The loop's invariant: all fields before this one are good. Assumes nothing.
+-- `count_links`: none without accounts, else field by field. The loop's invariant: all fields before this one are good.
+-- Assumes nothing.
 use Prim.Native.Nat.{ℕ, _-_, _≤_}
 use mathlib.Core.Bool.{Bool}
 use mathlib.Core.Path.{_≡_}

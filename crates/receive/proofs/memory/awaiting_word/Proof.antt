@@ -1,4 +1,4 @@
--- `awaiting_word`: an offset in the memory. Assumes nothing.
+-- `awaiting_word`: an index in the memory. Assumes nothing.
 use native.Mathlib.Omega.{arith}
 use Rattle.receive.proofs.Words.{index-low}
 use borrow.Author.Needs.{needs}

@@ -1,4 +1,4 @@
--- `store`: the word at its offset. Assumes nothing.
+-- `store`: the word at its index. Assumes nothing.
 use Rattle.receive.proofs.Words.{store-is}
 use borrow.Author.Needs.{needs}
 use Rattle.receive.proofs.memory.store.Statement.{statement}

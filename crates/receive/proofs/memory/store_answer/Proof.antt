@@ -1,4 +1,4 @@
--- `store_answer`: by its answer; no refusal comes past the first test. Assumes nothing.
+-- `store_answer`: answer by answer; after the first test the answer is no refusal. Assumes nothing.
 use Rattle.receive.proofs.Answering.{left-refused, left-copy, left-delivered, left-out, never-unknown, never-late}
 use borrow.Author.Needs.{needs}
 use Rattle.receive.proofs.memory.store_answer.Statement.{statement}

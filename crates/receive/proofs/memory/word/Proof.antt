@@ -1,4 +1,4 @@
--- `word`: the word at its offset. Assumes nothing.
+-- `word`: the word at its index. Assumes nothing.
 use Rattle.receive.proofs.Words.{word-is}
 use borrow.Author.Needs.{needs}
 use Rattle.receive.proofs.memory.word.Statement.{statement}

@@ -1,4 +1,4 @@
--- `capacity`: by the limits, by which the sum and the product fit. Assumes nothing.
+-- `capacity`: 0 where a limit is broken; within the limits the sum and the product fit. Assumes nothing.
 use Rattle.terms.proofs.Methods.{limits-tested, none-full, window-fits, full-fits, full-given}
 use borrow.Author.Needs.{needs}
 use Rattle.terms.proofs.Terms.capacity.Statement.{statement}

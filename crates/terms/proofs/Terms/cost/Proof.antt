@@ -1,4 +1,4 @@
--- `cost`: by the limits, then by the octets; by both the product fits. Assumes nothing.
+-- `cost`: 0 where a limit is broken or no frame has the octets; otherwise the product fits. Assumes nothing.
 use native.Mathlib.Omega.{arith}
 use Rattle.terms.proofs.Methods.{none-charged, limits-tested, no-frame, frame-high, product-fits, product-given}
 use borrow.Author.Needs.{needs}
