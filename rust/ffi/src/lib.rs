@@ -79,7 +79,8 @@ impl Network {
         NonZeroU8::new(number).map_or(Network::A, Network::B)
     }
 
-    fn number(self) -> u8 {
+    /// The number that the library is told.
+    pub fn number(self) -> u8 {
         match self {
             Network::A => 0,
             Network::B(number) => number.get(),
@@ -127,10 +128,21 @@ pub fn police(t: &Terms, credit: &mut u32, last: &mut u64, octets: usize, time: 
     // SAFETY: exclusive references, and a place of its own.
     let code = unsafe {
         raw::ashthulgo_police(
-            t.smax, t.k, t.jitter, t.mode, credit, last, octets, time, &mut reported,
+            t.smax,
+            t.k,
+            t.jitter,
+            t.mode,
+            credit,
+            last,
+            octets,
+            time,
+            &mut reported,
         )
     };
-    StepAnswer { code, credit: reported }
+    StepAnswer {
+        code,
+        credit: reported,
+    }
 }
 
 /// The same by way of an account that is changed in place.
@@ -145,10 +157,21 @@ pub fn police_in_place(
     // SAFETY: exclusive references, and a place of its own.
     let code = unsafe {
         raw::ashthulgo_police_in_place(
-            t.smax, t.k, t.jitter, t.mode, credit, last, octets, time, &mut reported,
+            t.smax,
+            t.k,
+            t.jitter,
+            t.mode,
+            credit,
+            last,
+            octets,
+            time,
+            &mut reported,
         )
     };
-    StepAnswer { code, credit: reported }
+    StepAnswer {
+        code,
+        credit: reported,
+    }
 }
 
 #[inline]

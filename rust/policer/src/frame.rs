@@ -1,10 +1,8 @@
 //! Reading a frame's own fields.
 
-use crate::rules::{FRAME_LONG, FRAME_MAX, FRAME_MIN, FRAME_SHORT};
+use crate::rules::{FRAME_LONG, FRAME_MAX, FRAME_MIN, FRAME_SHORT, PAYLOAD_START};
 
-/// Where the payload begins.
-const PAYLOAD_START: usize = 14;
-/// The sequence number and the frame check sequence behind the payload.
+/// The sequence number and the frame check sequence, which follow the payload.
 const TRAILER: usize = 5;
 
 /// The fields of a frame beside its payload.

@@ -1,10 +1,10 @@
 //! Reading and writing configuration images.
 
 use crate::rules::{
-    ACCOUNTS_MAX, BAD_COUNT, BAD_LENGTH, BAD_TAG, BAD_VALUE, DONE, IMAGE_CUT, LINKS_MAX, NO_ROOM,
-    TRAILING,
+    ACCOUNTS_MAX, ACCOUNT_ROW, BAD_COUNT, BAD_LENGTH, BAD_TAG, BAD_VALUE, CONSTANT_BITS, DONE,
+    IMAGE_CUT, LINKS_MAX, LINK_ROW, NO_ROOM, TRAILING,
 };
-use crate::tables::{account, link_number, Config, Link, ACCOUNT_ROW, LINK_ROW};
+use crate::tables::{account, link_number, Config, Link};
 
 const TAG_HEAD: u8 = 1;
 const TAG_ACCOUNT: u8 = 2;
@@ -22,7 +22,7 @@ const ACCOUNT_FIELD: usize = PREFIX + ACCOUNT_ROW;
 const LINK_FIELD: usize = PREFIX + LINK_ROW;
 
 /// Octets of the longest image.
-const IMAGE_MAX: usize =
+pub const IMAGE_MAX: usize =
     HEAD_FIELD + ACCOUNTS_MAX * ACCOUNT_FIELD + LINKS_MAX * LINK_FIELD + PREFIX;
 /// So many octets of any file decide what the reader answers: one field more
 /// than the longest image holds.
@@ -30,8 +30,6 @@ pub(crate) const IMAGE_DECIDED: usize = IMAGE_MAX + LINK_FIELD;
 
 /// The one edition there is.
 const EDITION: u8 = 1;
-/// Bits set in the first octet of every constant field.
-const CONSTANT_BITS: u32 = 0x0300_0000;
 
 /// What reading an image answers.
 #[derive(Debug, Clone, Copy, PartialEq, Eq)]

@@ -13,13 +13,13 @@ mod frame;
 mod image;
 mod receive;
 mod replay;
-mod rules;
+pub mod rules;
 mod tables;
 
 pub use account::{Account, Outcome};
 pub use filter::{frame_call, Verdict};
 pub use frame::{header, payload, Header};
-pub use image::{check, load, write, Loaded, Written};
+pub use image::{check, load, write, Loaded, Written, IMAGE_MAX};
 pub use receive::{receive, Network, Reception, RECEIVE_ROW, RECORD_WORDS};
 pub use replay::replay;
 pub use tables::Config;

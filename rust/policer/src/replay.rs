@@ -6,8 +6,8 @@ use std::path::Path;
 
 use crate::filter::frame_call;
 use crate::image::{load, IMAGE_DECIDED};
-use crate::rules::{ACCOUNTS_MAX, DONE, FRAME_LONG, FRAME_MAX, LINKS_MAX};
-use crate::tables::{Config, ACCOUNT_ROW, LINK_ROW};
+use crate::rules::{ACCOUNTS_MAX, ACCOUNT_ROW, DONE, FRAME_LONG, FRAME_MAX, LINKS_MAX, LINK_ROW};
+use crate::tables::Config;
 use crate::Verdict;
 
 const IMAGE_FILE: &str = "rig.cfg";

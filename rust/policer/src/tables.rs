@@ -1,11 +1,7 @@
 //! The rows of the configuration tables.
 
 use crate::account::Account;
-use crate::rules::{FRAME_MIN, PORT_MAX};
-
-/// Octets of an account row and of a link row.
-pub const ACCOUNT_ROW: usize = 6;
-pub const LINK_ROW: usize = 13;
+use crate::rules::{ACCOUNT_ROW, FRAME_MIN, LINK_ROW, PORT_MAX};
 
 /// What a switch is configured with, as loading answered it or as a caller
 /// makes it up.
