@@ -14,6 +14,9 @@ pub struct Call {
 /// Sizes at the edges of rules that hold for every frame.
 pub const SIZE_EDGES: [usize; 12] = [0, 1, 5, 6, 7, 63, 64, 65, 1_517, 1_518, 1_519, 1_600];
 
+/// Sizes that are those of a frame of 64 octets where a length is cut to 16 bits.
+pub const LONG_SIZES: [usize; 2] = [65_600, 131_136];
+
 /// The first time, not before the last, at which the credit suffices for a frame; none where it never does.
 fn first_allowed(a: &AccountRow, credit: u32, last: u64, octets: usize) -> Option<u64> {
     let cost = a.cost(octets)?;

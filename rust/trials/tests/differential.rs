@@ -1,10 +1,16 @@
 //! Runs the proved library beside the plain Rust version and, where demand 3 or Q-1 speaks, the judge. Every case comes
 //! from the seed, its kind and its number alone.
 //!
-//! `cargo test --release --offline -p trials --test differential -- [TIMES] [--seed N] [--only KIND [CASE]]`
+//! `cargo test --release --offline -p trials --test differential -- [TIMES | 1/PARTS] [--seed N] [--checked] [--only KIND [CASE]]`
+//!
+//! TIMES runs all cases so many times over, 1/PARTS one part of so many. `--checked` refuses a build that doesn't check its
+//! sums; without `--release` the build is a debug build, which does.
 
 mod kinds;
 
+use std::fmt;
+use std::hint::black_box;
+use std::panic;
 use std::process::ExitCode;
 use std::time::{Duration, Instant};
 
@@ -12,7 +18,8 @@ use kinds::{guarded, Kind, Mismatch, Rig, Tally, What, KINDS, PORT_MAX};
 use trials::random::Random;
 
 const SEED: u64 = 664;
-const USAGE: &str = "arguments: [TIMES] [--seed N] [--only KIND [CASE]], TIMES at least 1";
+const USAGE: &str =
+    "arguments: [TIMES | 1/PARTS] [--seed N] [--checked] [--only KIND [CASE]], TIMES and PARTS at least 1";
 
 /// What a full run compares at least.
 const LEAST: [(What, u64, &str); 3] = [
@@ -21,9 +28,53 @@ const LEAST: [(What, u64, &str); 3] = [
     (What::Receive, 1_000_000, "receive calls"),
 ];
 
+/// How much of a full run: all cases so many times over, or one part of so many.
+#[derive(Clone, Copy)]
+enum Share {
+    Times(u64),
+    Part(u64),
+}
+
+impl Share {
+    fn read(word: &str) -> Result<Self, String> {
+        let share = match word.strip_prefix("1/") {
+            Some(parts) => Share::Part(number(Some(parts.into()))?),
+            None => Share::Times(number(Some(word.into()))?),
+        };
+        match share {
+            Share::Times(0) | Share::Part(0) => Err(format!("'{word}' would compare nothing")),
+            _ => Ok(share),
+        }
+    }
+
+    fn of(self, n: u64) -> u64 {
+        match self {
+            Share::Times(times) => n.saturating_mul(times),
+            Share::Part(parts) => n / parts,
+        }
+    }
+
+    /// The cases of a kind.
+    fn cases(self, kind: &Kind) -> u64 {
+        self.of(kind.cases).max(kind.fewest)
+    }
+}
+
+impl fmt::Display for Share {
+    fn fmt(&self, f: &mut fmt::Formatter) -> fmt::Result {
+        match self {
+            Share::Times(1) => write!(f, "all cases"),
+            Share::Times(times) => write!(f, "all cases {times} times over"),
+            Share::Part(parts) => write!(f, "1/{parts} of the cases"),
+        }
+    }
+}
+
 struct Options {
-    times: u64,
+    share: Share,
     seed: u64,
+    /// Refuse a build that doesn't check its sums.
+    checked: bool,
     /// One kind, and one case of it or all.
     only: Option<(&'static Kind, Option<u64>)>,
 }
@@ -45,26 +96,37 @@ fn kind(word: Option<String>) -> Result<&'static Kind, String> {
 fn options(words: impl Iterator<Item = String>) -> Result<Options, String> {
     let mut words = words.peekable();
     let mut options = Options {
-        times: 1,
+        share: Share::Times(1),
         seed: SEED,
+        checked: false,
         only: None,
     };
     while let Some(word) = words.next() {
         match word.as_str() {
             "--seed" => options.seed = number(words.next())?,
+            "--checked" => options.checked = true,
             "--only" => {
                 let kind = kind(words.next())?;
                 let case = words.next_if(|word| !word.starts_with('-'));
                 let case = case.map(|case| number(Some(case))).transpose()?;
                 options.only = Some((kind, case));
             }
-            _ => options.times = number(Some(word))?,
+            _ => options.share = Share::read(&word)?,
         }
     }
-    if options.times == 0 {
-        return Err("0 times would compare nothing".into());
+    if options.checked && !sums_are_checked() {
+        return Err("this build doesn't check its sums, as a debug build does".into());
     }
     Ok(options)
+}
+
+/// Whether a sum that is too large for its type panics in this build.
+fn sums_are_checked() -> bool {
+    let hook = panic::take_hook();
+    panic::set_hook(Box::new(|_| {}));
+    let sum = panic::catch_unwind(|| black_box(u8::MAX) + black_box(1));
+    panic::set_hook(hook);
+    sum.is_err()
 }
 
 fn report(kind: &Kind, seed: u64, case: u64, mismatch: Mismatch) {
@@ -74,8 +136,9 @@ fn report(kind: &Kind, seed: u64, case: u64, mismatch: Mismatch) {
         println!("  {name}: {value}");
     }
     println!("once more, in rust/:");
+    let build = if sums_are_checked() { "" } else { "--release " };
     println!(
-        "  cargo test --release --offline -p trials --test differential -- --seed {seed} --only {} {case}",
+        "  cargo test {build}--offline -p trials --test differential -- --seed {seed} --only {} {case}",
         kind.name
     );
     for rig in &mismatch.rigs {
@@ -83,7 +146,7 @@ fn report(kind: &Kind, seed: u64, case: u64, mismatch: Mismatch) {
     }
 }
 
-/// Keeps a rig and tells how to replay it.
+/// Keeps a rig and says how to replay it.
 fn report_rig(rig: &Rig, name: &str) {
     let folder = match rig.keep(name) {
         Ok(folder) => folder,
@@ -109,12 +172,12 @@ fn run_kind(kind: &Kind, options: &Options) -> Option<(Tally, Duration)> {
     let mut tally = Tally::default();
     let cases = match options.only {
         Some((_, Some(case))) => case..case.saturating_add(1),
-        _ => 0..kind.cases.saturating_mul(options.times),
+        _ => 0..options.share.cases(kind),
     };
     for case in cases {
         tally.cases += 1;
         let mut r = Random::new(options.seed ^ kind.salt(), case);
-        // A panic that a kind doesn't catch itself has no inputs to tell.
+        // A panic that a kind doesn't catch itself has no inputs to report.
         if let Err(mismatch) = guarded(|| (kind.run)(&mut r, &mut tally)) {
             report(kind, options.seed, case, mismatch);
             return None;
@@ -125,7 +188,12 @@ fn run_kind(kind: &Kind, options: &Options) -> Option<(Tally, Duration)> {
 
 /// Runs the kinds; false where a case failed or a full run left something out.
 fn run(options: &Options) -> bool {
-    println!("seed {}, {} times", options.seed, options.times);
+    let sums = if sums_are_checked() {
+        "checked"
+    } else {
+        "not checked"
+    };
+    println!("seed {}, {}, sums {sums}", options.seed, options.share);
     let (mut total, mut elapsed) = (Tally::default(), Duration::ZERO);
     let (mut codes, mut missing) = (vec![], vec![]);
     for kind in &KINDS {
@@ -140,7 +208,8 @@ fn run(options: &Options) -> bool {
         println!("{}", named(&counts));
         codes.extend(tally.codes().iter().map(named));
         codes.extend(tally.modes().iter().map(named));
-        missing.extend(tally.missing(kind.covers).iter().map(named));
+        let share = |least| options.share.of(least);
+        missing.extend(tally.missing(kind.covers, share).iter().map(named));
         missing.extend(tally.missing_modes(kind.modes).iter().map(named));
         elapsed += took;
         total.add(&tally);
@@ -153,12 +222,13 @@ fn run(options: &Options) -> bool {
     );
     println!("\nanswers by code");
     codes.iter().for_each(|line| println!("{line}"));
-    options.only.is_some() || covered(&total, missing)
+    options.only.is_some() || covered(options.share, &total, missing)
 }
 
-/// Says what a full run should have compared and didn't.
-fn covered(total: &Tally, mut missing: Vec<String>) -> bool {
+/// Says what a run should have compared and didn't.
+fn covered(share: Share, total: &Tally, mut missing: Vec<String>) -> bool {
     for (what, least, name) in LEAST {
+        let least = share.of(least);
         if total.sum(what) < least {
             missing.push(format!("fewer than {least} {name}"));
         }

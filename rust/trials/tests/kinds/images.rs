@@ -1,7 +1,6 @@
 //! Reading and loading images, writing the accepted ones again, and loading through a reader.
 
 use ffi::ImageAnswer;
-use trials::plan::Plan;
 use trials::random::Random;
 use trials::{damage, sound};
 
@@ -89,13 +88,13 @@ fn any_room(r: &mut Random, image: usize) -> Lent<u8> {
     Lent::garbage(r, octets, |n| n as u8)
 }
 
-/// The runs lent are long enough, mostly, for what the image or else its plan names.
-fn counts(image: &[u8], plan: &Plan) -> (usize, usize) {
+/// How many accounts and links the runs lent have room for, mostly: what the image names, or else its plan.
+fn counts(image: &[u8], planned: (usize, usize)) -> (usize, usize) {
     let named = policer::check(image);
     if named.code == 0 {
         (named.accounts, named.links)
     } else {
-        (plan.accounts.len(), plan.links.len())
+        planned
     }
 }
 
@@ -109,25 +108,29 @@ pub fn modes(image: &[u8], answer: &ImageAnswer) -> Vec<u8> {
     }
 }
 
-pub fn run(r: &mut Random, tally: &mut Tally) -> Result<(), Mismatch> {
-    let plan = sound::plan(r);
-    let octets = damage::image(r, plan.clone());
-    let image = ReadOnly::new(r, &octets);
+/// Reads, loads and writes again an image of so many accounts and links.
+pub fn compare(
+    r: &mut Random,
+    octets: &[u8],
+    planned: (usize, usize),
+    tally: &mut Tally,
+) -> Result<(), Mismatch> {
+    let image = ReadOnly::new(r, octets);
     let told = |m: Mismatch| {
-        m.octets("image", &octets)
-            .rig(Rig::of_calls("image", &octets, &[]))
+        m.octets("image", octets)
+            .rig(Rig::of_calls("image", octets, &[]))
     };
-    let (accounts, links) = guarded(|| Ok(counts(&octets, &plan))).map_err(told)?;
+    let (accounts, links) = guarded(|| Ok(counts(octets, planned))).map_err(told)?;
     let before = Runs::any(r, accounts, links);
     let told = |m: Mismatch| before.told(told(m));
     let (answer, runs) = guarded(|| read(&image, &before)).map_err(told)?;
     tally.count(What::Image, answer.code);
-    for mode in modes(&octets, &answer) {
+    for mode in modes(octets, &answer) {
         tally.count_mode(What::Image, mode, answer.code);
     }
     if answer.code == 0 {
         let room = any_room(r, octets.len());
-        guarded(|| write_again(&octets, &answer, runs.clone(), &room))
+        guarded(|| write_again(octets, &answer, runs.clone(), &room))
             .map_err(|m| told(m).octets("room lent", room.run()))?;
     }
     let (which, place) = any_place(r, octets.len());
@@ -136,4 +139,11 @@ pub fn run(r: &mut Random, tally: &mut Tally) -> Result<(), Mismatch> {
     tally.count(What::ReaderLoad, through.code);
     tally.count(What::ReaderPlace, which);
     Ok(())
+}
+
+pub fn run(r: &mut Random, tally: &mut Tally) -> Result<(), Mismatch> {
+    let plan = sound::plan(r);
+    let planned = (plan.accounts.len(), plan.links.len());
+    let octets = damage::image(r, plan);
+    compare(r, &octets, planned, tally)
 }

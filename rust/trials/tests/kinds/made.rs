@@ -4,7 +4,7 @@ use trials::random::Random;
 
 use super::lent::ReadOnly;
 
-/// Rows as they are mostly, else cut anywhere or with more octets behind them.
+/// Rows as they are mostly, else cut anywhere or with more octets after them.
 pub fn lend_rows(r: &mut Random, mut rows: Vec<u8>, row: usize) -> ReadOnly {
     match r.below(80) {
         0 => rows.truncate(r.count(0, rows.len())),
@@ -28,7 +28,9 @@ pub fn any_count(r: &mut Random, right: usize) -> usize {
         2 => right.saturating_sub(1),
         3 => right + 1,
         4 => right + r.count(1, 300),
-        5 => r.pick(&[usize::MAX, 1 << 63, (1 << 32) + right, 256 + right]),
+        5 => r
+            .pick(&[usize::MAX, 1 << 63, 1 << 32, 65_536, 256])
+            .saturating_add(right),
         _ => right,
     }
 }

@@ -1,9 +1,11 @@
 //! The kinds of cases, and what they have in common.
 
 mod arrivals;
+mod far;
 mod frames;
 mod histories;
 mod images;
+mod large;
 mod lent;
 mod made;
 mod receptions;
@@ -23,16 +25,17 @@ use std::panic::{catch_unwind, AssertUnwindSafe};
 use ffi::Tables;
 use lent::Lent;
 pub use rigs::{Rig, PORT_MAX};
-pub use tally::{ByMode, Tally, What};
+pub use tally::{ByMode, Cover, Tally, What};
 use trials::random::Random;
 use trials::traffic::Call;
 
 pub struct Kind {
     pub name: &'static str,
-    /// How many cases a run has.
+    /// How many cases a full run has, and how many any run has at least.
     pub cases: u64,
-    /// What a run compares, each with the codes that it can't have.
-    pub covers: &'static [(What, &'static [usize])],
+    pub fewest: u64,
+    /// What a run compares.
+    pub covers: &'static [Cover],
     /// What it compares by mode.
     pub modes: &'static [ByMode],
     pub run: fn(&mut Random, &mut Tally) -> Result<(), Mismatch>,
@@ -48,29 +51,48 @@ impl Kind {
     }
 }
 
-pub const KINDS: [Kind; 9] = [
+pub const KINDS: [Kind; 11] = [
     Kind {
         name: "images",
         cases: 300_000,
+        fewest: 1,
         covers: &[
-            (What::Image, &[]),
-            (What::ReaderLoad, &[]),
-            (What::ReaderPlace, &[]),
+            (What::Image, &[], 1_000),
+            (What::ReaderLoad, &[], 1_000),
+            (What::ReaderPlace, &[], 1_000),
         ],
         modes: &[(What::Image, &[0, 23], &[23])],
         run: images::run,
     },
     Kind {
+        name: "large",
+        cases: 400,
+        fewest: 60,
+        covers: &[
+            (What::Image, &[0, 20, 21, 22, 26], 20),
+            (What::ReaderLoad, &[0, 20, 21, 22, 26], 20),
+            (What::LargeImage, &[], 40),
+        ],
+        modes: &[],
+        run: large::run,
+    },
+    Kind {
         name: "writer",
         cases: 150_000,
-        covers: &[(What::Write, &[])],
+        fewest: 1,
+        covers: &[(What::Write, &[], 1_000)],
         modes: &[(What::Write, &[0, 23], &[23])],
         run: writer::run,
     },
     Kind {
         name: "tables",
         cases: 200_000,
-        covers: &[(What::FrameCall, &[])],
+        fewest: 1,
+        covers: &[
+            (What::FrameCall, &[], 1_000),
+            (What::Long65600, &[], 20),
+            (What::Long131136, &[], 20),
+        ],
         modes: &[
             (What::FrameCall, &[0, 8, 9, 10], &[10]),
             (What::Edge, &[0, 9], &[]),
@@ -78,9 +100,21 @@ pub const KINDS: [Kind; 9] = [
         run: tables::run,
     },
     Kind {
+        name: "far",
+        cases: 40,
+        fewest: 10,
+        covers: &[(What::FarRow, &[], 10)],
+        modes: &[],
+        run: far::run,
+    },
+    Kind {
         name: "histories",
         cases: 15_000,
-        covers: &[(What::FrameCall, &[10]), (What::Isolated, &[])],
+        fewest: 1,
+        covers: &[
+            (What::FrameCall, &[10], 1_000),
+            (What::Isolated, &[], 1_000),
+        ],
         modes: &[
             (What::FrameCall, &[0, 8, 9], &[]),
             (What::Isolated, &[0, 8, 9], &[]),
@@ -90,7 +124,13 @@ pub const KINDS: [Kind; 9] = [
     Kind {
         name: "steps",
         cases: 40_000,
-        covers: &[(What::Step, &[]), (What::StepInPlace, &[])],
+        fewest: 1,
+        covers: &[
+            (What::Step, &[], 1_000),
+            (What::StepInPlace, &[], 1_000),
+            (What::Long65600, &[], 1_000),
+            (What::Long131136, &[], 1_000),
+        ],
         modes: &[
             (What::Step, &[0, 8, 9, 10], &[10]),
             (What::Edge, &[0, 9], &[]),
@@ -100,28 +140,39 @@ pub const KINDS: [Kind; 9] = [
     Kind {
         name: "frames",
         cases: 150_000,
-        covers: &[(What::Frame, &[])],
+        fewest: 1,
+        covers: &[
+            (What::Frame, &[], 1_000),
+            (What::Long65600, &[8, 9, 10], 100),
+            (What::Long131136, &[8, 9, 10], 100),
+        ],
         modes: &[],
         run: frames::run,
     },
     Kind {
         name: "replays",
         cases: 600,
-        covers: &[(What::FrameCall, &[10]), (What::Image, &[26])],
+        fewest: 300,
+        covers: &[(What::FrameCall, &[10], 100), (What::Image, &[26], 1)],
         modes: &[(What::Image, &[0], &[])],
         run: replays::run,
     },
     Kind {
         name: "arrivals",
         cases: 50_000,
-        covers: &[(What::Receive, &[])],
+        fewest: 1,
+        covers: &[(What::Receive, &[], 1_000)],
         modes: &[],
         run: arrivals::run,
     },
     Kind {
         name: "receptions",
         cases: 6_000,
-        covers: &[(What::Receive, &[]), (What::ReceiveAlone, &[])],
+        fewest: 1,
+        covers: &[
+            (What::Receive, &[], 1_000),
+            (What::ReceiveAlone, &[], 1_000),
+        ],
         modes: &[],
         run: receptions::run,
     },
@@ -183,9 +234,17 @@ pub fn guarded<T>(compare: impl FnOnce() -> Result<T, Mismatch>) -> Result<T, Mi
     })
 }
 
+/// Octets of a run that a mismatch shows: more than the longest image has.
+const SHOWN: usize = 5_000;
+
 fn hex(octets: &[u8]) -> String {
-    let shown: String = octets.iter().map(|o| format!("{o:02x}")).collect();
-    format!("{} octets {shown}", octets.len())
+    let shown: String = octets
+        .iter()
+        .take(SHOWN)
+        .map(|o| format!("{o:02x}"))
+        .collect();
+    let more = if octets.len() > SHOWN { ".." } else { "" };
+    format!("{} octets {shown}{more}", octets.len())
 }
 
 /// Rattle's answer and Rust's.

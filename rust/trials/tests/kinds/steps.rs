@@ -4,7 +4,7 @@ use ffi::{StepAnswer, Terms};
 use policer::Account;
 use trials::plan::AccountRow;
 use trials::random::Random;
-use trials::traffic::{self, SIZE_EDGES};
+use trials::traffic::{self, LONG_SIZES, SIZE_EDGES};
 use trials::{damage, sound};
 
 use super::{agree, guarded, same, sides, Mismatch, Tally, What};
@@ -86,7 +86,8 @@ fn any_size(r: &mut Random, smax: u16) -> usize {
     let smax = usize::from(smax);
     match r.below(20) {
         0..=1 => r.pick(&SIZE_EDGES),
-        2 => r.pick(&[usize::MAX, 65_536 + 64, (1 << 32) + 64, 1 << 63]),
+        2 if r.once_in(2) => r.pick(&LONG_SIZES),
+        2 => r.pick(&[usize::MAX, (1 << 32) + 64, 1 << 63]),
         3..=4 => r.count(0, 1_600),
         5..=7 => smax + 1 - r.count(0, 2).min(smax),
         8..=12 => smax,
@@ -121,10 +122,18 @@ fn judge(row: &AccountRow, steps: &[(usize, u64)], codes: &Vec<u8>) -> Result<()
     agree("the codes", ("Rattle", codes), ("judge", &judged))
 }
 
-fn count(tally: &mut Tally, row: &AccountRow, octets: usize, answer: &StepAnswer) {
+/// Counts a step's answer; the account is as it was before.
+fn count(
+    tally: &mut Tally,
+    row: &AccountRow,
+    mut before: Account,
+    (octets, time): (usize, u64),
+    answer: &StepAnswer,
+) {
     tally.count(What::Step, answer.code);
     tally.count(What::StepInPlace, answer.code);
     tally.count_frame(What::Step, row, octets, (answer.code, answer.credit));
+    tally.count_long(octets, || sides::step(before.police(64, time)).code);
 }
 
 /// Steps on one account from an accepted image, fresh.
@@ -144,8 +153,9 @@ fn list(r: &mut Random, tally: &mut Tally) -> Result<(), Mismatch> {
     for _ in 0..r.below(80) {
         let (octets, time) = any_step(r, &row, &pair, start);
         steps.push((octets, time));
+        let before = pair.rust;
         let answer = guarded(|| pair.police(octets, time)).map_err(|m| told(m, &steps))?;
-        count(tally, &row, octets, &answer);
+        count(tally, &row, before, (octets, time), &answer);
         codes.push(answer.code);
     }
     guarded(|| judge(&row, &steps, &codes)).map_err(|m| told(m, &steps))
@@ -206,8 +216,8 @@ fn single(r: &mut Random, tally: &mut Tally) -> Result<(), Mismatch> {
     } else {
         traffic::time(r, &row, credit, last, octets)
     };
+    let pair = || Pair::new(&row, credit, last);
     let compared = guarded(|| {
-        let pair = || Pair::new(&row, credit, last);
         pair().figures(octets)?;
         pair().top_up(time)?;
         pair().police(octets, time)
@@ -219,7 +229,7 @@ fn single(r: &mut Random, tally: &mut Tally) -> Result<(), Mismatch> {
             .input("octets", octets)
             .input("time", time)
     })?;
-    count(tally, &row, octets, &answer);
+    count(tally, &row, pair().rust, (octets, time), &answer);
     Ok(())
 }
 

@@ -1,9 +1,9 @@
-//! Frame calls over tables that no loading stands behind.
+//! Frame calls over tables that no image was loaded into.
 
 use ffi::{CallAnswer, Tables};
 use trials::plan::{AccountRow, LinkRow, Plan};
 use trials::random::Random;
-use trials::traffic::{self, Call};
+use trials::traffic::{self, Call, LONG_SIZES};
 use trials::{damage, sound};
 
 use super::lent::{Lent, ReadOnly};
@@ -16,9 +16,9 @@ const CALLS: usize = 8;
 
 /// What the accounts stand at.
 #[derive(Debug, Clone, PartialEq, Eq)]
-struct State {
-    credits: Lent<u32>,
-    lasts: Lent<u64>,
+pub struct State {
+    pub credits: Lent<u32>,
+    pub lasts: Lent<u64>,
 }
 
 /// Rows, each with a broken rule now and then, whose numbers repeat.
@@ -132,7 +132,12 @@ fn any_call(r: &mut Random, plan: &Plan, state: &State) -> Call {
     let row = plan.links.iter().find(|l| l.number == number);
     let row = row.unwrap_or(&plan.links[i]);
     let at = usize::from(row.account);
-    let octets = traffic::size(r, row);
+    // A long frame is aimed by its first 64 octets.
+    let long = r.once_in(400).then(|| r.pick(&LONG_SIZES));
+    let octets = match long {
+        Some(_) => 64,
+        None => traffic::size(r, row),
+    };
     let stands = (
         plan.accounts.get(at),
         state.credits.run().get(at),
@@ -144,11 +149,27 @@ fn any_call(r: &mut Random, plan: &Plan, state: &State) -> Call {
         }
         _ => traffic::wild_time(r),
     };
+    let mut frame = traffic::frame(r, plan, number, octets);
+    frame.resize(long.unwrap_or(octets), 0x5a);
     Call {
-        frame: traffic::frame(r, plan, number, octets),
+        frame,
         port: traffic::port(r, row.port),
         time,
     }
+}
+
+/// The code of a frame's first 64 octets.
+fn code_of_start(call: &Call, tables: &Tables, before: &State) -> u8 {
+    let mut state = before.clone();
+    let verdict = policer::frame_call(
+        &call.frame[..64],
+        call.port,
+        call.time,
+        &sides::config(tables),
+        state.credits.run_mut(),
+        state.lasts.run_mut(),
+    );
+    verdict.code()
 }
 
 /// Any octets, port and time.
@@ -170,7 +191,7 @@ fn stray(r: &mut Random, plan: &Plan) -> Call {
 }
 
 /// One call by both, from the same state; the answer, and the states after it.
-fn call_both(
+pub fn call_both(
     call: &Call,
     frame: &ReadOnly,
     tables: &Tables,
@@ -234,9 +255,10 @@ pub fn run(r: &mut Random, tally: &mut Tally) -> Result<(), Mismatch> {
                     .call(&call)
             })?;
         tally.count(What::FrameCall, answer.code);
+        tally.count_long(call.frame.len(), || code_of_start(&call, &tables, &before));
         if let Some(account) = account_of(&tables, &call.frame) {
-            let told = (answer.code, answer.credit);
-            tally.count_frame(What::FrameCall, &account, call.frame.len(), told);
+            let reported = (answer.code, answer.credit);
+            tally.count_frame(What::FrameCall, &account, call.frame.len(), reported);
         }
     }
     accounts

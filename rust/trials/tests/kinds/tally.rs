@@ -26,9 +26,18 @@ pub enum What {
     ReaderLoad,
     /// Where the reader stood before: 0 at the start, 1 inside, 2 at the end, 3 past it, 4 at the largest number.
     ReaderPlace,
+    /// Frames of 65,600 octets, whose length cut to 16 bits is 64, by the code that their first 64 octets get.
+    Long65600,
+    /// Frames of 131,136 octets in the same way.
+    Long131136,
+    /// Images far above the limit: 0 more accounts, 1 more links, 2 surplus octets, 3 surplus octets whose number cut to 16
+    /// bits is 0, 4 many images one after another.
+    LargeImage,
+    /// Tables of more rows than 16 bits count: 0 where the link's row is the first of those, 1 where it is a later one.
+    FarRow,
 }
 
-const WHAT: [(What, &str, &[usize]); 12] = [
+const WHAT: [(What, &str, &[usize]); 16] = [
     (
         What::FrameCall,
         "frame calls",
@@ -57,7 +66,26 @@ const WHAT: [(What, &str, &[usize]); 12] = [
         &[0, 20, 21, 22, 23, 24, 25, 26],
     ),
     (What::ReaderPlace, "places of a reader", &[0, 1, 2, 3, 4]),
+    (
+        What::Long65600,
+        "frames of 65,600 octets by the code of their first 64",
+        &[0, 8, 9, 10],
+    ),
+    (
+        What::Long131136,
+        "frames of 131,136 octets by the code of their first 64",
+        &[0, 8, 9, 10],
+    ),
+    (
+        What::LargeImage,
+        "images far above the limit",
+        &[0, 1, 2, 3, 4],
+    ),
+    (What::FarRow, "rows that 16 bits don't count", &[0, 1]),
 ];
+
+/// What a run compares: the codes that it can't have, and how often each other code comes up in a full run at least.
+pub type Cover = (What, &'static [usize], u64);
 
 /// What a run compares by mode: the codes that come up in each mode, and those of numbers that are no mode.
 pub type ByMode = (What, &'static [usize], &'static [usize]);
@@ -126,6 +154,15 @@ impl Tally {
         }
     }
 
+    /// Counts a frame whose length cut to 16 bits is 64, by the code that its first 64 octets get. Others are left aside.
+    pub fn count_long(&mut self, octets: usize, code: impl FnOnce() -> u8) {
+        match octets {
+            65_600 => self.count(What::Long65600, code()),
+            131_136 => self.count(What::Long131136, code()),
+            _ => {}
+        }
+    }
+
     pub fn add(&mut self, other: &Tally) {
         self.cases += other.cases;
         for (mine, theirs) in self.answers.iter_mut().zip(&other.answers) {
@@ -152,15 +189,19 @@ impl Tally {
         counts.join(", ")
     }
 
-    /// The codes of these things that were never answered, those left aside that can't be.
-    pub fn missing(&self, covers: &[(What, &[usize])]) -> Vec<String> {
+    /// The codes of these things that came up too rarely, those left aside that can't. A run has a share of a full one.
+    pub fn missing(&self, covers: &[Cover], share: impl Fn(u64) -> u64) -> Vec<String> {
         let mut missing = vec![];
-        for &(what, never) in covers {
+        for &(what, never, least) in covers {
             let (_, name, codes) = WHAT[what as usize];
             let answers = &self.answers[what as usize];
+            let least = share(least).max(1);
             let expected = codes.iter().filter(|code| !never.contains(code));
-            for code in expected.filter(|&&code| answers[code] == 0) {
-                missing.push(format!("no code {code} among the {name}"));
+            for &code in expected.filter(|&&code| answers[code] < least) {
+                let n = answers[code];
+                missing.push(format!(
+                    "code {code} came up {n} times among the {name}, and {least} are due"
+                ));
             }
         }
         missing
