@@ -48,8 +48,8 @@ fn write_rig(folder: &Path, octets: usize) -> io::Result<()> {
 
 /// The Rust version's replay of a folder, to standard output.
 pub fn rust(folder: &str) {
-    let mut out = io::stdout().lock();
-    policer::replay(Path::new(folder), &mut out).expect("output that can be written");
+    let faults = policer::replay(Path::new(folder), &mut io::stdout().lock());
+    assert!(faults.is_empty(), "{faults:?}");
 }
 
 /// A run's seconds.

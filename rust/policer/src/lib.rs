@@ -21,5 +21,5 @@ pub use filter::{frame_call, Verdict};
 pub use frame::{header, payload, Header};
 pub use image::{check, load, write, Loaded, Written, IMAGE_MAX};
 pub use receive::{receive, Network, Reception, RECEIVE_ROW, RECORD_WORDS};
-pub use replay::replay;
+pub use replay::{replay, Fault};
 pub use tables::Config;

@@ -2,9 +2,10 @@
 
 mod common;
 
-use std::fs;
-use std::path::PathBuf;
-use std::process::Command;
+use std::fs::{self, File};
+use std::io;
+use std::path::{Path, PathBuf};
+use std::process::{Command, Stdio};
 
 use common::{end, field, frame, image_of, image_p, open_image, Dice, IMAGE_P, LINK_7};
 
@@ -23,10 +24,11 @@ impl Folder {
         fs::write(self.0.join(file), octets).unwrap();
     }
 
-    fn replay(&self) -> String {
+    /// The answers, and the statuses of the faults.
+    fn replay(&self) -> (String, Vec<u8>) {
         let mut out = Vec::new();
-        policer::replay(&self.0, &mut out).unwrap();
-        String::from_utf8(out).unwrap()
+        let faults = policer::replay(&self.0, &mut out);
+        (String::from_utf8(out).unwrap(), statuses(&faults))
     }
 }
 
@@ -47,7 +49,18 @@ fn run(name: &str, image: &[u8], log: &[u8]) -> String {
     let folder = Folder::new(name);
     folder.put("rig.cfg", image);
     folder.put("rig.frames", log);
-    folder.replay()
+    let (out, faults) = folder.replay();
+    let expected = match out.split('\n').nth_back(1) {
+        Some("cut") => vec![4],
+        Some(line) if line.starts_with("image") => vec![3],
+        _ => vec![],
+    };
+    assert_eq!(faults, expected);
+    out
+}
+
+fn statuses(faults: &[policer::Fault]) -> Vec<u8> {
+    faults.iter().map(policer::Fault::status).collect()
 }
 
 fn case_14() -> Vec<u8> {
@@ -93,47 +106,94 @@ fn line_octets() {
     }
 }
 
+/// The program's answers, its words on standard error and its exit status.
+fn program(folder: &Path, out: Stdio) -> (String, String, i32) {
+    let ran = Command::new(env!("CARGO_BIN_EXE_policer-replay"))
+        .arg(folder)
+        .stdout(out)
+        .stderr(Stdio::piped())
+        .spawn()
+        .and_then(|child| child.wait_with_output())
+        .unwrap();
+    let text = |octets| String::from_utf8(octets).unwrap();
+    let status = ran.status.code().unwrap();
+    (text(ran.stdout), text(ran.stderr), status)
+}
+
+const NOT_THERE: &str = "can't be opened and reads as empty: No such file or directory";
+
 #[test]
-fn the_program_prints_it() {
+fn the_program_says_how_it_went() {
     let folder = Folder::new("program");
+    let run = || program(&folder.0, Stdio::piped());
+    let said = |file: &str, what: &str| format!("policer-replay: {file} {what}\n");
+    let (no_image, no_log) = (said("rig.cfg", NOT_THERE), said("rig.frames", NOT_THERE));
+
+    // No image: refused, and the log isn't opened.
+    assert_eq!(run(), ("image 20 0\n".into(), no_image, 5));
+    folder.put("rig.cfg", &IMAGE_P[..33]);
+    assert_eq!(run(), ("image 20 33\n".into(), "".into(), 3));
+    folder.put("rig.cfg", &IMAGE_P);
+    assert_eq!(run(), ("# frame code credit\n".into(), no_log, 5));
+    folder.put("rig.frames", &case_14());
+    assert_eq!(run(), (CASE_14.into(), "".into(), 0));
+    folder.put("rig.frames", &[case_14(), vec![16]].concat());
+    assert_eq!(run(), (format!("{CASE_14}cut\n"), "".into(), 4));
+    fs::remove_file(folder.0.join("rig.frames")).unwrap();
+    fs::create_dir(folder.0.join("rig.frames")).unwrap();
+    let unread = said("rig.frames", "can't be read: Is a directory");
+    assert_eq!(run(), ("# frame code credit\n".into(), unread, 6));
+    fs::remove_file(folder.0.join("rig.cfg")).unwrap();
+    fs::create_dir(folder.0.join("rig.cfg")).unwrap();
+    let unread = said("rig.cfg", "can't be read: Is a directory");
+    assert_eq!(run(), ("".into(), unread, 6));
+}
+
+#[test]
+fn the_program_says_what_it_couldnt_write() {
+    let folder = Folder::new("unwritten");
+    let said = |what: &str| format!("policer-replay: the answers can't be written: {what}\n");
+    let full = || Stdio::from(File::options().write(true).open("/dev/full").unwrap());
     folder.put("rig.cfg", &IMAGE_P);
     folder.put("rig.frames", &case_14());
-    let ran = Command::new(env!("CARGO_BIN_EXE_policer-replay"))
-        .arg(&folder.0)
-        .output()
-        .unwrap();
-    assert!(ran.status.success());
-    assert_eq!(String::from_utf8(ran.stdout).unwrap(), CASE_14);
-    let ran = Command::new(env!("CARGO_BIN_EXE_policer-replay"))
-        .arg(folder.0.join("none"))
-        .output()
-        .unwrap();
-    assert!(ran.status.success());
-    assert_eq!(ran.stdout, b"image 20 0\n");
+    let no_space = said("No space left on device");
+    let run = |out| program(&folder.0, out);
+    assert_eq!(run(full()), ("".into(), no_space.clone(), 7));
+    folder.put("rig.frames", &[16]);
+    assert_eq!(run(full()), ("".into(), no_space.clone(), 7));
+    fs::remove_file(folder.0.join("rig.cfg")).unwrap();
+    let no_image = format!("policer-replay: rig.cfg {NOT_THERE}\n{no_space}");
+    assert_eq!(run(full()), ("".into(), no_image, 7));
+    folder.put("rig.cfg", &IMAGE_P);
+    let (reader, writer) = io::pipe().unwrap();
+    drop(reader);
+    assert_eq!(run(writer.into()), ("".into(), said("Broken pipe"), 7));
+}
+
+#[test]
+fn the_program_takes_one_folder() {
+    for folders in [0, 2] {
+        let ran = Command::new(env!("CARGO_BIN_EXE_policer-replay"))
+            .args(vec!["."; folders])
+            .output()
+            .unwrap();
+        assert_eq!(ran.status.code(), Some(2));
+        assert_eq!(ran.stderr, b"usage: policer-replay FOLDER\n");
+        assert!(ran.stdout.is_empty());
+    }
 }
 
 #[test]
 fn missing_files_are_empty() {
     let folder = Folder::new("missing");
-    assert_eq!(folder.replay(), "image 20 0\n");
+    assert_eq!(folder.replay(), ("image 20 0\n".into(), vec![5, 3]));
     folder.put("rig.frames", &case_14());
-    assert_eq!(folder.replay(), "image 20 0\n");
+    assert_eq!(folder.replay(), ("image 20 0\n".into(), vec![5, 3]));
     fs::remove_file(folder.0.join("rig.frames")).unwrap();
     folder.put("rig.cfg", &IMAGE_P);
-    assert_eq!(folder.replay(), "# frame code credit\n");
+    assert_eq!(folder.replay(), ("# frame code credit\n".into(), vec![5]));
     folder.put("rig.frames", &[]);
-    assert_eq!(folder.replay(), "# frame code credit\n");
-}
-
-#[test]
-fn unreadable_files_are_empty() {
-    let folder = Folder::new("unreadable");
-    fs::create_dir(folder.0.join("rig.cfg")).unwrap();
-    assert_eq!(folder.replay(), "image 20 0\n");
-    fs::remove_dir(folder.0.join("rig.cfg")).unwrap();
-    folder.put("rig.cfg", &IMAGE_P);
-    fs::create_dir(folder.0.join("rig.frames")).unwrap();
-    assert_eq!(folder.replay(), "# frame code credit\n");
+    assert_eq!(folder.replay(), ("# frame code credit\n".into(), vec![]));
 }
 
 #[test]
@@ -266,18 +326,31 @@ fn garbage() {
     }
 }
 
-/// A writer that takes nothing passes its error on.
+/// The fault of an output that takes nothing, whatever else there was.
 #[test]
-fn output_errors_come_back() {
-    struct Full;
-    impl std::io::Write for Full {
-        fn write(&mut self, _: &[u8]) -> std::io::Result<usize> {
-            Err(std::io::Error::other("full"))
+fn output_errors_are_faults() {
+    struct Full(usize);
+    impl io::Write for Full {
+        fn write(&mut self, _: &[u8]) -> io::Result<usize> {
+            self.0 += 1;
+            Err(io::Error::other("full"))
         }
-        fn flush(&mut self) -> std::io::Result<()> {
+        fn flush(&mut self) -> io::Result<()> {
             Ok(())
         }
     }
     let folder = Folder::new("full");
-    assert!(policer::replay(&folder.0, &mut Full).is_err());
+    for expected in [&[5, 3, 7][..], &[7], &[4, 7]] {
+        let mut out = Full(0);
+        let faults = policer::replay(&folder.0, &mut out);
+        assert_eq!(statuses(&faults), expected);
+        assert_eq!(out.0, 1, "nothing after a write that failed");
+        folder.put("rig.cfg", &IMAGE_P);
+        let log = if expected.len() == 3 {
+            case_14()
+        } else {
+            vec![16]
+        };
+        folder.put("rig.frames", &log);
+    }
 }

@@ -199,9 +199,12 @@ fn replay_both(program: &Path, rig: &Rig) -> Result<Vec<u8>, Mismatch> {
         .map_err(|e| format!("no rig in {}: {e}", folder.display()));
     let ours = ready.and_then(|()| run_program(program, &folder));
     let mut theirs = vec![];
-    let wrote = guarded(|| Ok(policer::replay(&folder, &mut theirs)));
+    let faults = guarded(|| Ok(policer::replay(&folder, &mut theirs)));
     let _ = fs::remove_dir_all(&folder);
-    wrote?.map_err(|e| Mismatch::new(format!("policer's replay: {e}")))?;
+    let failed = faults?.into_iter().find(|fault| fault.status() > 5);
+    if let Some(fault) = failed {
+        return Err(Mismatch::new(format!("policer's replay: {fault:?}")));
+    }
     compare(&ours.map_err(Mismatch::new)?, &theirs)?;
     Ok(theirs)
 }
