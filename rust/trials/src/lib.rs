@@ -2,6 +2,7 @@
 
 pub mod arrivals;
 pub mod damage;
+pub mod logs;
 pub mod plan;
 pub mod random;
 pub mod sound;

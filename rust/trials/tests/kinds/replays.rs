@@ -4,14 +4,13 @@ use std::path::{Path, PathBuf};
 use std::process::{Command, Stdio};
 use std::{env, fs, process};
 
-use trials::damage;
 use trials::plan::Plan;
 use trials::random::Random;
 use trials::sound::{self, ACCOUNTS_MAX, LINKS_MAX};
-use trials::traffic::{Call, Traffic};
+use trials::{damage, logs};
 
 use super::images::modes;
-use super::rigs::{put_call, Rig};
+use super::rigs::Rig;
 use super::{agree, guarded, sides, Mismatch, Tally, What};
 
 /// Octets that the proved program reads at once; logs around that length have an edge there.
@@ -27,14 +26,14 @@ fn any_image(r: &mut Random, plan: &Plan) -> Option<Vec<u8>> {
     }
 }
 
-/// Octets behind the end, also far more than any accepted image has.
+/// Octets after the end, also far more than any accepted image has.
 fn with_more(r: &mut Random, image: Vec<u8>) -> Vec<u8> {
     let more = r.near(&[1, 13, 16, 65_536, 300_000], 1, 20_000) as usize;
     [image, r.octets(more)].concat()
 }
 
 /// Around the longest image's 4,683 octets, near which a program may stop reading: one link more, whole or cut, or octets
-/// behind the end.
+/// after the end.
 fn longest_image(r: &mut Random) -> Vec<u8> {
     let links = r.pick(&[LINKS_MAX, LINKS_MAX + 1, LINKS_MAX + 1]);
     let mut image = sound::plan_of(r, ACCOUNTS_MAX, links).image();
@@ -46,78 +45,23 @@ fn longest_image(r: &mut Random) -> Vec<u8> {
     image
 }
 
-/// Fills a log with calls on the plan, a frame longer than any buffer for one now and then. They are aimed by the plain
-/// version.
+/// Fills a log with calls on the plan, a frame longer than any buffer for one now and then.
 fn fill_log(r: &mut Random, plan: &Plan, log: &mut Vec<u8>) {
-    let n = plan.accounts.len();
-    let (mut accounts, mut links) = (vec![0; 6 * n], vec![0; 13 * plan.links.len()]);
-    let (mut credits, mut lasts) = (vec![0; n], vec![0; n]);
-    let image = plan.image();
-    let loaded = policer::load(&image, &mut accounts, &mut credits, &mut lasts, &mut links);
-    let config = policer::Config {
-        constant: loaded.constant,
-        accounts: &accounts,
-        account_count: loaded.accounts,
-        links: &links,
-        link_count: loaded.links,
-    };
     if r.once_in(8) {
-        let behind = r.pick(&[0, 1, 2, 3, 11, 12, 13, 80, 3_000]);
-        pad(r, log, READ_AT_ONCE - behind);
+        let left = r.pick(&[0, 1, 2, 3, 11, 12, 13, 80, 3_000]);
+        logs::pad(r, log, READ_AT_ONCE - left);
     }
     let calls = match r.below(40) {
         0 => 6_000,
         1..=3 => 500,
         _ => r.below(120),
     };
-    let mut traffic = Traffic::new(r, plan);
-    for _ in 0..calls {
-        let mut call = traffic.call(r, &credits, &lasts);
+    logs::put_traffic(r, plan, log, calls, |r, call| {
         if r.percent(2) {
-            call.frame
-                .resize(r.pick(&[1_519, 1_520, 9_000, 65_526]), 0x5a);
+            let octets = r.pick(&[1_519, 1_520, 9_000, 65_526]);
+            call.frame.resize(octets, 0x5a);
         }
-        put_call(log, &call);
-        let Call { frame, port, time } = &call;
-        policer::frame_call(frame, *port, *time, &config, &mut credits, &mut lasts);
-    }
-}
-
-/// Long frames, up to so many octets of log.
-fn pad(r: &mut Random, log: &mut Vec<u8>, octets: usize) {
-    while octets - log.len() >= 12 {
-        let record = (octets - log.len()).min(65_538);
-        let call = Call {
-            frame: r.octets(record - 12),
-            port: r.below(256) as u32,
-            time: r.next(),
-        };
-        put_call(log, &call);
-    }
-}
-
-/// Damage to a log: to its last record, to any octet, to a record's tag or length.
-fn damage_log(r: &mut Random, log: &mut Vec<u8>) {
-    let starts = record_starts(log);
-    let at = damage::any_index(r, starts.len()).map(|i| starts[i]);
-    match (r.below(7), at) {
-        (0, Some(at)) => log[at] = r.next() as u8,
-        (1, Some(at)) => log[at + 1..at + 3].copy_from_slice(&[0, r.below(12) as u8]),
-        (2, Some(at)) => log.truncate(at + r.count(0, 14)),
-        (3, _) => log.extend([16, 0, 9, 0, 0, 0, 0, 0, 0, 0, 0, 0]),
-        (4, _) => log.extend([16, 0, 9, 0, 0][..r.count(1, 5)].iter()),
-        _ => damage::octets(r, log),
-    }
-}
-
-fn record_starts(log: &[u8]) -> Vec<usize> {
-    let mut starts = vec![];
-    let mut at = 0;
-    while at < log.len() {
-        starts.push(at);
-        at += 3 + usize::from(u16::from_be_bytes([log[at + 1], log[at + 2]]));
-    }
-    starts
+    });
 }
 
 fn any_rig(r: &mut Random) -> Result<Rig, Mismatch> {
@@ -130,7 +74,7 @@ fn any_rig(r: &mut Random) -> Result<Rig, Mismatch> {
     })
     .map_err(|m| m.rig(Rig::new("aiming", Some(plan.image()), Some(log.clone()))))?;
     if r.percent(40) {
-        damage_log(r, &mut log);
+        logs::damage(r, &mut log);
     }
     let log = (!r.once_in(25)).then_some(log);
     Ok(Rig::new("replay", image, log))

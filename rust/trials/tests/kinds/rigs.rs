@@ -4,11 +4,9 @@ use std::io;
 use std::path::{Path, PathBuf};
 use std::{env, fs};
 
-use trials::plan::put_record;
+use trials::logs::put_call;
+pub use trials::logs::PORT_MAX;
 use trials::traffic::Call;
-
-/// The largest port that a record holds.
-pub const PORT_MAX: u32 = 255;
 
 /// A rig; a file that is none isn't there.
 #[derive(Debug, Clone, PartialEq, Eq)]
@@ -46,7 +44,7 @@ impl Rig {
         write_or_remove(&folder.join("rig.frames"), &self.log)
     }
 
-    /// Writes the rig to a folder that stays behind.
+    /// Writes the rig to a folder that stays.
     pub fn keep(&self, name: &str) -> io::Result<PathBuf> {
         let about = self
             .about
@@ -55,12 +53,6 @@ impl Rig {
         self.write(&folder)?;
         Ok(folder)
     }
-}
-
-/// Appends a call's record. A larger port than it holds is written as the largest: both are no link's.
-pub fn put_call(log: &mut Vec<u8>, call: &Call) {
-    let port = call.port.min(PORT_MAX) as u8;
-    put_record(log, call.time, port, &call.frame);
 }
 
 fn write_or_remove(path: &Path, octets: &Option<Vec<u8>>) -> io::Result<()> {
