@@ -10,7 +10,7 @@ use std::process::{Child, ChildStdin, ChildStdout, Command, Stdio};
 
 /// How often both processes are started anew, since where a process lies in memory changes its times.
 const STARTS: usize = 9;
-/// The rounds of such a pair, behind one that isn't counted.
+/// The rounds of such a pair, after one that isn't counted.
 const TURNS: usize = 25;
 
 /// A round of the static library for each line of the input: its seconds and the sum of its answers.
@@ -25,7 +25,7 @@ pub fn serve(work: &Work) {
 struct Server {
     child: Child,
     ask: ChildStdin,
-    told: BufReader<ChildStdout>,
+    answers: BufReader<ChildStdout>,
 }
 
 impl Server {
@@ -40,14 +40,18 @@ impl Server {
             .spawn()
             .expect("a program that starts");
         let ask = child.stdin.take().expect("a pipe");
-        let told = BufReader::new(child.stdout.take().expect("a pipe"));
-        Server { child, ask, told }
+        let answers = BufReader::new(child.stdout.take().expect("a pipe"));
+        Server {
+            child,
+            ask,
+            answers,
+        }
     }
 
     fn round(&mut self) -> (f64, u64) {
         writeln!(self.ask, "round").expect("a program that listens");
         let mut line = String::new();
-        self.told.read_line(&mut line).expect("text");
+        self.answers.read_line(&mut line).expect("text");
         let (seconds, sum) = line.trim().split_once(' ').expect("seconds and a sum");
         let seconds = seconds.parse().expect("a number of seconds");
         (seconds, sum.parse().expect("a sum"))
@@ -66,8 +70,8 @@ fn pairs(this: &OsStr, other: &OsStr, links: usize, standing: Standing) -> Vec<(
         let mut ours = Server::start(this, links, standing);
         let mut theirs = Server::start(other, links, standing);
         for turn in 0..=TURNS {
-            let in_front = (start + turn) % 2 == 0;
-            let ((a, sum), (b, same)) = in_turn(in_front, || ours.round(), || theirs.round());
+            let goes_first = (start + turn) % 2 == 0;
+            let ((a, sum), (b, same)) = in_turn(goes_first, || ours.round(), || theirs.round());
             assert_eq!(sum, same, "the two give other answers");
             if turn > 0 {
                 pairs.push((a, b));

@@ -16,7 +16,7 @@ struct Folder(PathBuf);
 
 impl Drop for Folder {
     fn drop(&mut self) {
-        // What can't be removed stays; there is nobody to tell.
+        // What can't be removed stays; there is nobody to report it to.
         let _ = fs::remove_dir_all(&self.0);
     }
 }
@@ -64,7 +64,7 @@ fn output(program: &mut Command) -> Vec<u8> {
     program.output().expect("a program that starts").stdout
 }
 
-/// The two programs on a folder: the proved one works in it, this one is told it.
+/// The two programs on a folder: the proved one runs in it, this one gets its path.
 fn programs(folder: &Path) -> (Command, Command) {
     let proved = Path::new(env!("CARGO_MANIFEST_DIR")).join("../../target/bin/replay");
     let proved = fs::canonicalize(&proved).expect("target/bin/replay: `rt check replay` builds it");

@@ -19,9 +19,13 @@ pub fn median(mut values: Vec<f64>) -> f64 {
     values[values.len() / 2]
 }
 
-/// A round of each, the first in front or behind.
-pub fn in_turn<T>(in_front: bool, first: impl FnOnce() -> T, second: impl FnOnce() -> T) -> (T, T) {
-    if in_front {
+/// A round of each; the first goes first or second.
+pub fn in_turn<T>(
+    goes_first: bool,
+    first: impl FnOnce() -> T,
+    second: impl FnOnce() -> T,
+) -> (T, T) {
+    if goes_first {
         let a = first();
         (a, second())
     } else {
@@ -46,7 +50,7 @@ pub fn print_heading() {
     println!("|---|---:|---:|---:|---|");
 }
 
-/// Times two contenders in turn, the first in front in every other round, and prints a line; `scale` is what a second is in
+/// Times two contenders in turn, the first goes first in every other round, and prints a line; `scale` is what a second is in
 /// the unit. Each answers its seconds and what it came to, which must be equal.
 pub fn compare<T: PartialEq>(
     work: &str,

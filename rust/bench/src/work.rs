@@ -5,7 +5,7 @@ use std::hint::black_box;
 use trials::plan::{AccountRow, LinkRow, Plan};
 use trials::random::Random;
 
-/// What the brackets behind a line's work say.
+/// What the brackets after a line's work say.
 pub const SHARES: &str =
     "In brackets, of a thousand frames: forwarded, short, and those that find the credit stored \
                           at capacity.";

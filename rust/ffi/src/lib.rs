@@ -66,7 +66,7 @@ pub struct Tables<'a> {
     pub link_count: usize,
 }
 
-/// A network as the library is told it: 0 is A, any other number B.
+/// A network as the library takes it: 0 is A, any other number B.
 #[derive(Debug, Clone, Copy, PartialEq, Eq)]
 pub enum Network {
     A,
@@ -79,7 +79,7 @@ impl Network {
         NonZeroU8::new(number).map_or(Network::A, Network::B)
     }
 
-    /// The number that the library is told.
+    /// The number that the library takes for it.
     pub fn number(self) -> u8 {
         match self {
             Network::A => 0,
@@ -95,7 +95,7 @@ pub fn read_frame(frame: &[u8]) -> FrameAnswer {
         sequence: 0,
         payload: 0,
     };
-    // SAFETY: the slice and the places are live, and the places are three of their own.
+    // SAFETY: the slice and the outputs are live, and the outputs are three of their own.
     said.code = unsafe {
         raw::ashthulgo_read_frame(
             frame.as_ptr(),
@@ -125,7 +125,7 @@ pub fn top_up(t: &Terms, credit: &mut u32, last: &mut u64, time: u64) {
 
 pub fn police(t: &Terms, credit: &mut u32, last: &mut u64, octets: usize, time: u64) -> StepAnswer {
     let mut reported = 0;
-    // SAFETY: exclusive references, and a place of its own.
+    // SAFETY: exclusive references, and an output of its own.
     let code = unsafe {
         raw::ashthulgo_police(
             t.smax,
@@ -154,7 +154,7 @@ pub fn police_in_place(
     time: u64,
 ) -> StepAnswer {
     let mut reported = 0;
-    // SAFETY: exclusive references, and a place of its own.
+    // SAFETY: exclusive references, and an output of its own.
     let code = unsafe {
         raw::ashthulgo_police_in_place(
             t.smax,
@@ -184,7 +184,7 @@ pub fn frame_call(
     lasts: &mut [u64],
 ) -> CallAnswer {
     let (mut mask, mut credit) = (0, 0);
-    // SAFETY: slices, two of them exclusive, and places of their own.
+    // SAFETY: slices, two of them exclusive, and outputs of their own.
     let code = unsafe {
         raw::ashthulgo_frame_call(
             frame.as_ptr(),
@@ -211,7 +211,7 @@ pub fn frame_call(
 
 pub fn check(image: &[u8]) -> ImageAnswer {
     let mut said = ImageAnswer::default();
-    // SAFETY: the slice is live, and the places are four of their own.
+    // SAFETY: the slice is live, and the outputs are four of their own.
     said.code = unsafe {
         raw::ashthulgo_check(
             image.as_ptr(),
@@ -233,7 +233,7 @@ pub fn load(
     links: &mut [u8],
 ) -> ImageAnswer {
     let mut said = ImageAnswer::default();
-    // SAFETY: slices, four of them exclusive, and places of their own.
+    // SAFETY: slices, four of them exclusive, and outputs of their own.
     said.code = unsafe {
         raw::ashthulgo_load(
             image.as_ptr(),
@@ -265,7 +265,7 @@ pub fn reader_load(
     links: &mut [u8],
 ) -> ImageAnswer {
     let mut said = ImageAnswer::default();
-    // SAFETY: slices, four of them exclusive, an exclusive reference, and places of their own.
+    // SAFETY: slices, four of them exclusive, an exclusive reference, and outputs of their own.
     said.code = unsafe {
         raw::ashthulgo_reader_load(
             image.as_ptr(),
@@ -290,7 +290,7 @@ pub fn reader_load(
 
 pub fn write(tables: &Tables, room: &mut [u8]) -> WriteAnswer {
     let mut offset = 0;
-    // SAFETY: slices, one of them exclusive, and a place of its own.
+    // SAFETY: slices, one of them exclusive, and an output of its own.
     let code = unsafe {
         raw::ashthulgo_write(
             tables.constant,

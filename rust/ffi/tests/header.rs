@@ -79,7 +79,7 @@ fn succeeded(output: &Output, about: &[&str; 2]) {
 }
 
 /// A file of this test's own.
-fn place(name: &str) -> PathBuf {
+fn own_file(name: &str) -> PathBuf {
     Path::new(env!("CARGO_TARGET_TMPDIR")).join(name)
 }
 
@@ -89,7 +89,7 @@ fn the_header_and_the_library_fit() {
     let library = root().join("target/staticlib/libexports.a");
     let library = library.to_str().expect("a plain path");
     for language in &LANGUAGES {
-        let program = place("header");
+        let program = own_file("header");
         let output = program.to_str().expect("a plain path");
         // What follows is no source.
         let more = ["-xnone", library, "-o", output];
@@ -172,7 +172,7 @@ fn the_constants_are_the_rust_versions() {
     for (name, value) in constants {
         source += &format!("extern int {name}_[ASHTHULGO_{name} == {value} ? 1 : -1];\n");
     }
-    let file = place("constants.c");
+    let file = own_file("constants.c");
     fs::write(&file, source).expect("a file");
     for language in &LANGUAGES {
         succeeded(&compile(language, &file, &["-fsyntax-only"]), language);
@@ -210,7 +210,7 @@ fn the_functions_are_those_exported() {
 
 #[test]
 fn other_machines_are_refused() {
-    let file = place("machine.c");
+    let file = own_file("machine.c");
     fs::write(&file, "#include \"ashthulgo.h\"\n").expect("a file");
     for language in &LANGUAGES {
         for without in ["-U__x86_64__", "-U__LP64__"] {

@@ -50,7 +50,7 @@ fn letters(rows: &[u8], words: &str) -> String {
 #[test]
 fn figures() {
     let figures = [
-        // 3-15 to 3-18, then 3-20 as Q-1 has it: B2 goes up behind A3.
+        // 3-15 to 3-18, then 3-20 as Q-1 has it: B2 goes up after A3.
         ("A1 B1 A2 B2 A3 B99 A4 B4 B5 A5 A6 B6", "dcdcdododcdc"),
         ("A1 B1 A2 B2 B3 A3 B4 B5 A5 A6 B6", "dcdcdcddcdc"),
         ("A255 B255 A1 B1 A0 B0 B1 A1 A2 B2", "dcdcdcdcdc"),
@@ -112,7 +112,7 @@ fn deliveries_meet_one_copy_each() {
 }
 
 #[test]
-fn numbers_and_stamps_stay_behind() {
+fn numbers_and_stamps_are_kept() {
     // Out of sequence: the number counts for the next, the stamp too.
     assert_eq!(letters(&ROWS, "A1@5 A9@8 A2@8 A4@8 A5@7 B1@8"), "doodlc");
     // Late: neither, on either network.

@@ -36,7 +36,7 @@ const EDITION: u8 = 1;
 pub struct Loaded {
     /// 0 or a code from 20 up.
     pub code: u8,
-    /// Place in the image: that of the refused field, or the image's end.
+    /// Offset in the image: that of the refused field, or the image's end.
     pub offset: usize,
     /// The constant field; 0 when refused.
     pub constant: u32,
@@ -63,7 +63,7 @@ impl Loaded {
 pub struct Written {
     /// 0, 23, 24 or 26.
     pub code: u8,
-    /// Image length, place of the bad field with 23, otherwise 0.
+    /// Image length, offset of the bad field with 23, otherwise 0.
     pub offset: usize,
 }
 
@@ -75,7 +75,7 @@ fn account_place(index: usize) -> usize {
     HEAD_FIELD + index * ACCOUNT_FIELD
 }
 
-/// Where link field `index` begins behind so many accounts.
+/// Where link field `index` begins after so many accounts.
 fn link_place(accounts: usize, index: usize) -> usize {
     account_place(accounts) + index * LINK_FIELD
 }
@@ -100,7 +100,7 @@ fn link_holds(
         && smax_of(link.account).is_some_and(|smax| link.holds(smax))
 }
 
-/// Which tags may stand behind which.
+/// Which tags may follow which.
 fn may_follow(before: Option<u8>, tag: u8) -> bool {
     matches!(
         (before, tag),
@@ -288,7 +288,7 @@ pub fn load(
         return Loaded::refused(NO_ROOM, image.len());
     }
 
-    // The fields of an accepted image stand at fixed places.
+    // The fields of an accepted image stand at fixed offsets.
     let (account_fields, link_fields) =
         image[HEAD_FIELD..].split_at(loaded.accounts * ACCOUNT_FIELD);
     let account_fields = account_fields.as_chunks::<ACCOUNT_FIELD>().0;

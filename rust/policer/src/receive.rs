@@ -85,8 +85,8 @@ fn skew_of(row: &Row) -> u32 {
     u32::from_be_bytes([row[2], row[3], row[4], row[5]])
 }
 
-/// The word that says if a network's delivery of a number is open; its stamp is
-/// behind it.
+/// The word that says if a network's delivery of a number is open; its stamp
+/// follows it.
 fn delivery(network: Network, number: u8) -> usize {
     DELIVERIES + 2 * (NUMBERS * network.index() + usize::from(number))
 }
@@ -108,7 +108,8 @@ fn in_sequence(word: u64, number: u8) -> bool {
     u8::try_from(last).is_ok_and(|last| number == next(last) || number == next(next(last)))
 }
 
-/// Is a delivery at this stamp at most `skew` old? One after `now` is none.
+/// Is a delivery at this stamp at most `skew` old? One after `now`
+/// counts as none.
 fn recent(delivered: u64, now: u64, skew: u32) -> bool {
     now.checked_sub(delivered)
         .is_some_and(|age| age <= u64::from(skew))

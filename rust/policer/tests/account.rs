@@ -138,7 +138,7 @@ fn refuses_as_unsound(account: Account) {
         let mut changed = account;
         changed.top_up(time);
         assert_eq!(changed, account);
-        // Before the lateness, but behind the size.
+        // Before the lateness, but after the size.
         for (octets, code) in [(63, 1), (64, 10), (1_518, 10), (1_519, 2)] {
             assert_eq!(changed.police(octets, time), Outcome::Refused(code));
             assert_eq!(changed, account);

@@ -175,7 +175,7 @@ fn modes() {
     }
 }
 
-/// Links behind link 5, accounts 0 and 1 having Smax 200 and 300: good or not.
+/// Links after link 5, accounts 0 and 1 having Smax 200 and 300: good or not.
 const LINK_CASES: [(LinkRow, bool); 27] = [
     (LINK_7, true),
     (LINK_7.number(6), true),

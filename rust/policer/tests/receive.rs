@@ -238,7 +238,7 @@ fn a_delivery_meets_one_copy() {
     // That one is open on B now, and A's frame is its copy.
     station.expect(A, 0, 130, Copy);
     station.expect(A, 0, 140, Delivered);
-    // Round about: 1 is met, then comes on B again behind a reset.
+    // Round about: 1 is met, then comes on B again after a reset.
     let mut station = Station::with_skew(SKEW);
     station.expect(A, 1, 10, Delivered);
     station.expect(B, 1, 10, Copy);
@@ -299,7 +299,7 @@ fn zero_follows_everything() {
         let stamp = 1_000_000 * stamp as u64;
         station.take(LINK, A, last, stamp);
         station.expect(A, 0, stamp, Delivered);
-        // Behind it come 1 and 2, not 3.
+        // After it come 1 and 2, not 3.
         station.clone().expect(A, 1, stamp, Delivered);
         station.clone().expect(A, 2, stamp, Delivered);
         station.clone().expect(A, 3, stamp, OutOfSequence);
@@ -350,7 +350,7 @@ fn late_on_either_network() {
             station.expect(late, 2, 499, Late);
             station.expect(late, 0, 0, Late);
         }
-        // The late frames left no number and no stamp behind.
+        // The late frames left no number and no stamp.
         assert_eq!(station.records[0], 500);
         station.expect(network, 2, 500, Delivered);
     }

@@ -124,7 +124,7 @@ fn number(r: &mut Random, manner: &Manner, here: u64, there: u64) -> u8 {
     }
 }
 
-/// The network that is behind, mostly; 0 or 1.
+/// The network with fewer frames so far, mostly; 0 or 1.
 fn network(r: &mut Random, record: &Record) -> usize {
     let ahead = record[1].wrapping_sub(record[2]) as i8;
     if ahead == 0 || r.once_in(4) {

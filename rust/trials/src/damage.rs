@@ -143,7 +143,7 @@ pub fn octets(r: &mut Random, octets: &mut Vec<u8>) {
     }
 }
 
-/// Octets that no plan stands behind, the first few plausible perhaps.
+/// Octets that are no plan's; the first few may be plausible.
 fn garbage(r: &mut Random) -> Vec<u8> {
     let mut image = sound::plan(r).image();
     image.truncate(r.pick(&[0, 0, 3, 8, 17, 33]));

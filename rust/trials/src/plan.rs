@@ -114,7 +114,7 @@ impl Plan {
         self.fields().concat()
     }
 
-    /// A frame of so many octets on a link number; the octets behind the number are those of `rest`, over and over.
+    /// A frame of so many octets on a link number; the octets after the number are those of `rest`, over and over.
     pub fn frame(&self, number: u16, octets: usize, rest: &[u8]) -> Vec<u8> {
         let mut frame: Vec<u8> = self.constant.to_be_bytes().into();
         frame.extend(number.to_be_bytes());

@@ -224,7 +224,7 @@ fn writes_that_take_nothing() {
         let Some(octets) = ran.moved("WRITE") else {
             return false;
         };
-        assert!(ran.said.starts_with(&unwritten("").trim_end()[..]));
+        assert!(ran.said.starts_with(unwritten("").trim_end()));
         assert_eq!(ran.status, "7\n");
         same_text(&ran.text, &text[..octets], "a write that took nothing");
         true

@@ -12,7 +12,7 @@ const CALLS: usize = 10;
 
 /// Rows and records as they stand: Rattle's, Rust's, and as they follow from the answers.
 struct Station {
-    /// One more than is lent mostly, so that a row in part has its rest behind it.
+    /// One more than is lent mostly, so that the rest of a row lent in part follows it.
     rows: Vec<ReceiveRow>,
     lent: ReadOnly,
     rattle: Lent<u64>,

@@ -85,7 +85,7 @@ impl<'a> History<'a> {
             Ok((rattle, rust))
         });
         let (rattle, rust) = loaded.map_err(|m| {
-            room.told(m)
+            room.with_inputs(m)
                 .octets("image", image)
                 .rig(Rig::of_calls(about, image, &[]))
         })?;
@@ -143,7 +143,7 @@ impl<'a> History<'a> {
             frame.stayed("the frame lent for reading")?;
             Ok(ours)
         });
-        let answer = answer.map_err(|m| self.told(m, self.calls.len()))?;
+        let answer = answer.map_err(|m| self.with_inputs(m, self.calls.len()))?;
         self.answers.push(answer);
         self.count(frame.run(), &answer, what, tally);
         Ok(answer)
@@ -160,7 +160,7 @@ impl<'a> History<'a> {
     }
 
     /// Adds the first so many calls to a mismatch, which is about the last of them.
-    fn told(&self, mismatch: Mismatch, calls: usize) -> Mismatch {
+    fn with_inputs(&self, mismatch: Mismatch, calls: usize) -> Mismatch {
         let image = self.source.image.run();
         let calls = &self.calls[..calls];
         let mismatch = mismatch
@@ -226,18 +226,18 @@ fn judge(history: &History) -> Result<(), Mismatch> {
         })
         .collect();
     let judged = guarded(|| Ok(judge::codes(history.source.image.run(), &calls)))
-        .map_err(|m| history.told(m, calls.len()))?;
+        .map_err(|m| history.with_inputs(m, calls.len()))?;
     for (n, (answer, code)) in history.answers.iter().zip(&judged).enumerate() {
         agree("the code", ("Rattle", &answer.code), ("judge", code))
             .and_then(|()| agree("code 10", ("judge", &(*code == 10)), ("expected", &false)))
-            .map_err(|m| history.told(m, n + 1))?;
+            .map_err(|m| history.with_inputs(m, n + 1))?;
     }
     agree(
         "the count of codes",
         ("Rattle", &calls.len()),
         ("judge", &judged.len()),
     )
-    .map_err(|m| history.told(m, calls.len()))
+    .map_err(|m| history.with_inputs(m, calls.len()))
 }
 
 /// An account of the history, one with frames mostly.
@@ -268,7 +268,7 @@ fn isolate(r: &mut Random, whole: &History, tally: &mut Tally) -> Result<(), Mis
             ("whole history", answer),
             ("one account", &again),
         )
-        .map_err(|m| told_both(m, account, (whole, n + 1), &alone))?;
+        .map_err(|m| with_both(m, account, (whole, n + 1), &alone))?;
     }
     send_others(r, &mut alone, account, others, tally)?;
     agree(
@@ -276,7 +276,7 @@ fn isolate(r: &mut Random, whole: &History, tally: &mut Tally) -> Result<(), Mis
         ("whole history", &whole.end(account)),
         ("one account", &alone.end(account)),
     )
-    .map_err(|m| told_both(m, account, (whole, whole.calls.len()), &alone))
+    .map_err(|m| with_both(m, account, (whole, whole.calls.len()), &alone))
 }
 
 /// Some frames that aren't meant for the account, another one so many times in a hundred.
@@ -295,13 +295,13 @@ fn send_others(
 }
 
 /// Adds to a mismatch the calls of both histories, the first so many of the whole one.
-fn told_both(
+fn with_both(
     mismatch: Mismatch,
     account: u16,
     (whole, calls): (&History, usize),
     alone: &History,
 ) -> Mismatch {
-    let mismatch = whole.told(mismatch.input("account", account), calls);
+    let mismatch = whole.with_inputs(mismatch.input("account", account), calls);
     let image = alone.source.image.run();
     mismatch.rig(Rig::of_calls(alone.about, image, &alone.calls))
 }

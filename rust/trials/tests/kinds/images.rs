@@ -116,14 +116,14 @@ pub fn compare(
     tally: &mut Tally,
 ) -> Result<(), Mismatch> {
     let image = ReadOnly::new(r, octets);
-    let told = |m: Mismatch| {
+    let with_inputs = |m: Mismatch| {
         m.octets("image", octets)
             .rig(Rig::of_calls("image", octets, &[]))
     };
-    let (accounts, links) = guarded(|| Ok(counts(octets, planned))).map_err(told)?;
+    let (accounts, links) = guarded(|| Ok(counts(octets, planned))).map_err(with_inputs)?;
     let before = Runs::any(r, accounts, links);
-    let told = |m: Mismatch| before.told(told(m));
-    let (answer, runs) = guarded(|| read(&image, &before)).map_err(told)?;
+    let with_inputs = |m: Mismatch| before.with_inputs(with_inputs(m));
+    let (answer, runs) = guarded(|| read(&image, &before)).map_err(with_inputs)?;
     tally.count(What::Image, answer.code);
     for mode in modes(octets, &answer) {
         tally.count_mode(What::Image, mode, answer.code);
@@ -131,11 +131,11 @@ pub fn compare(
     if answer.code == 0 {
         let room = any_room(r, octets.len());
         guarded(|| write_again(octets, &answer, runs.clone(), &room))
-            .map_err(|m| told(m).octets("room lent", room.run()))?;
+            .map_err(|m| with_inputs(m).octets("room lent", room.run()))?;
     }
     let (which, place) = any_place(r, octets.len());
     let through = guarded(|| read_from(&image, place, &before, (&answer, &runs)))
-        .map_err(|m| told(m).input("the reader's place", place))?;
+        .map_err(|m| with_inputs(m).input("the reader's place", place))?;
     tally.count(What::ReaderLoad, through.code);
     tally.count(What::ReaderPlace, which);
     Ok(())

@@ -8,25 +8,21 @@ use super::{agree_octets, Mismatch};
 
 #[derive(Debug, Clone, PartialEq, Eq)]
 pub struct Lent<T> {
-    /// The run with what lies before and behind it.
+    /// The run with what lies before and after it.
     all: Vec<T>,
     before: usize,
-    behind: usize,
+    after: usize,
 }
 
 impl<T: Clone> Lent<T> {
     /// A run with these contents; what lies around it comes from `some`.
     pub fn around(r: &mut Random, run: &[T], some: fn(u64) -> T) -> Self {
-        let (before, behind) = (r.count(1, 8), r.count(1, 4));
-        let mut all = Vec::with_capacity(before + run.len() + behind);
+        let (before, after) = (r.count(1, 8), r.count(1, 4));
+        let mut all = Vec::with_capacity(before + run.len() + after);
         all.extend((0..before).map(|_| some(r.next())));
         all.extend_from_slice(run);
-        all.extend((0..behind).map(|_| some(r.next())));
-        Lent {
-            all,
-            before,
-            behind,
-        }
+        all.extend((0..after).map(|_| some(r.next())));
+        Lent { all, before, after }
     }
 
     /// A run of so many elements that holds garbage.
@@ -35,9 +31,9 @@ impl<T: Clone> Lent<T> {
         Lent::around(r, &run, some)
     }
 
-    /// The first so many elements; the others then lie behind the run.
+    /// The first so many elements; the others then lie after the run.
     pub fn shortened(mut self, n: usize) -> Self {
-        self.behind += self.run().len() - n;
+        self.after += self.run().len() - n;
         self
     }
 
@@ -52,11 +48,11 @@ impl<T: Clone> Lent<T> {
     }
 
     pub fn run(&self) -> &[T] {
-        &self.all[self.before..self.all.len() - self.behind]
+        &self.all[self.before..self.all.len() - self.after]
     }
 
     pub fn run_mut(&mut self) -> &mut [T] {
-        let end = self.all.len() - self.behind;
+        let end = self.all.len() - self.after;
         &mut self.all[self.before..end]
     }
 }

@@ -224,7 +224,7 @@ impl Mismatch {
     }
 }
 
-/// Compares; a panic is a mismatch too, so that its inputs are told.
+/// Compares; a panic is a mismatch too, so that its inputs are reported.
 pub fn guarded<T>(compare: impl FnOnce() -> Result<T, Mismatch>) -> Result<T, Mismatch> {
     catch_unwind(AssertUnwindSafe(compare)).unwrap_or_else(|panic| {
         let text = panic.downcast_ref::<String>().map(String::as_str);

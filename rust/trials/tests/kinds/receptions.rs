@@ -35,7 +35,7 @@ impl Source {
         }
     }
 
-    /// Whole rows with a whole record. Octets behind the rows may make up more of them, whose numbers nobody aims at.
+    /// Whole rows with a whole record. Octets after the rows may make up more of them, whose numbers nobody aims at.
     fn in_use(&self) -> usize {
         (self.lent.run().len() / ROW).min(self.words / RECORD)
     }
@@ -115,7 +115,7 @@ impl<'a> History<'a> {
             }
             Ok(ours)
         });
-        let answer = answer.map_err(|m| self.told(m, self.frames.len()))?;
+        let answer = answer.map_err(|m| self.with_inputs(m, self.frames.len()))?;
         self.answers.push(answer);
         Ok(answer)
     }
@@ -125,11 +125,11 @@ impl<'a> History<'a> {
         let (one, other) = (("Rattle", &self.rattle), ("Rust", &self.rust));
         agree_lent("all records at the end", one, other)
             .and_then(|()| self.source.lent.stayed("the rows lent for reading"))
-            .map_err(|m| self.told(m, self.frames.len()))
+            .map_err(|m| self.with_inputs(m, self.frames.len()))
     }
 
     /// Adds the first so many frames to a mismatch, which is about the last of them.
-    fn told(&self, mismatch: Mismatch, frames: usize) -> Mismatch {
+    fn with_inputs(&self, mismatch: Mismatch, frames: usize) -> Mismatch {
         let plain = |f: &Arrival| (f.link, f.network, f.number, f.stamp);
         let frames: Vec<_> = self.frames[..frames].iter().map(plain).collect();
         mismatch
@@ -166,17 +166,17 @@ fn judge(history: &History) -> Result<(), Mismatch> {
     let frames: Vec<_> = history.frames.iter().map(sides::judged).collect();
     let (rows, in_use) = (history.source.lent.run(), history.source.in_use());
     let judged = guarded(|| Ok(judge::receive::answers(rows, in_use, &frames)))
-        .map_err(|m| history.told(m, frames.len()))?;
+        .map_err(|m| history.with_inputs(m, frames.len()))?;
     for (n, pair) in history.answers.iter().zip(&judged).enumerate() {
         agree("the answer", ("Rattle", pair.0), ("judge", pair.1))
-            .map_err(|m| history.told(m, n + 1))?;
+            .map_err(|m| history.with_inputs(m, n + 1))?;
     }
     agree(
         "the count of answers",
         ("Rattle", &history.answers.len()),
         ("judge", &judged.len()),
     )
-    .map_err(|m| history.told(m, frames.len()))
+    .map_err(|m| history.with_inputs(m, frames.len()))
 }
 
 /// The link of one of the frames and the record that counts for it; none where no row in use has its number.
@@ -203,14 +203,14 @@ fn isolate(r: &mut Random, whole: &History, tally: &mut Tally) -> Result<(), Mis
         tally.count(What::ReceiveAlone, again);
         let (one, other) = (("whole history", answer), ("one link", &again));
         agree("Rattle's answer to the frame", one, other)
-            .map_err(|m| told_both(m, link, (whole, n + 1), &alone))?;
+            .map_err(|m| with_both(m, link, (whole, n + 1), &alone))?;
     }
     send_others(r, &mut alone, link, others, tally)?;
     alone.finish()?;
     let one = ("whole history", &whole.rattle);
     let other = ("one link", &alone.rattle);
     agree_record("Rattle's record of the link at the end", record, one, other)
-        .map_err(|m| told_both(m, link, (whole, whole.frames.len()), &alone))
+        .map_err(|m| with_both(m, link, (whole, whole.frames.len()), &alone))
 }
 
 /// Some frames of other links, another one so many times in a hundred.
@@ -230,14 +230,14 @@ fn send_others(
 }
 
 /// Adds to a mismatch the frames of both histories, the first so many of the whole one.
-fn told_both(
+fn with_both(
     mismatch: Mismatch,
     link: u16,
     (whole, frames): (&History, usize),
     alone: &History,
 ) -> Mismatch {
-    let mismatch = whole.told(mismatch.input("link", link), frames);
-    alone.told(mismatch, alone.frames.len())
+    let mismatch = whole.with_inputs(mismatch.input("link", link), frames);
+    alone.with_inputs(mismatch, alone.frames.len())
 }
 
 pub fn run(r: &mut Random, tally: &mut Tally) -> Result<(), Mismatch> {

@@ -39,8 +39,8 @@ pub fn counted(rows: &[ReceiveRow], in_use: usize, link: u16) -> Option<Range<us
     Some(row * RECORD..(row + 1) * RECORD)
 }
 
-/// Two runs of words, the first of them at some place; the first word that differs is told, by its record and its place
-/// there.
+/// Two runs of words that begin at the same offset of the records. The first word that differs is reported by its record and
+/// its offset there.
 pub fn agree_words(
     what: &str,
     start: isize,

@@ -100,7 +100,7 @@ fn run_program(program: &Path, folder: &Path) -> Result<Vec<u8>, String> {
     Ok(ran.stdout)
 }
 
-/// The lines of both, the first that differ told.
+/// Compares the lines of both; the first that differ are reported.
 fn compare(rattle: &[u8], rust: &[u8]) -> Result<(), Mismatch> {
     let lines = |octets: &[u8]| -> Vec<String> {
         let text = String::from_utf8_lossy(octets);

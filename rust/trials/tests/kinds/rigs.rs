@@ -8,7 +8,7 @@ use trials::logs::put_call;
 pub use trials::logs::PORT_MAX;
 use trials::traffic::Call;
 
-/// A rig; a file that is none isn't there.
+/// A rig; a missing file is `None`.
 #[derive(Debug, Clone, PartialEq, Eq)]
 pub struct Rig {
     /// What it shows.

@@ -82,7 +82,7 @@ impl Runs {
     }
 
     /// Adds what was lent to a mismatch.
-    pub fn told(&self, mismatch: Mismatch) -> Mismatch {
+    pub fn with_inputs(&self, mismatch: Mismatch) -> Mismatch {
         mismatch
             .octets("account rows lent", self.accounts.run())
             .input("credits lent", self.credits.run())

@@ -147,18 +147,18 @@ fn list(r: &mut Random, tally: &mut Tally) -> Result<(), Mismatch> {
         traffic::wild_time(r)
     };
     let (mut steps, mut codes) = (vec![], vec![]);
-    let told = |m: Mismatch, steps: &[(usize, u64)]| {
+    let with_inputs = |m: Mismatch, steps: &[(usize, u64)]| {
         m.input("account", row).input("steps (octets, time)", steps)
     };
     for _ in 0..r.below(80) {
         let (octets, time) = any_step(r, &row, &pair, start);
         steps.push((octets, time));
         let before = pair.rust;
-        let answer = guarded(|| pair.police(octets, time)).map_err(|m| told(m, &steps))?;
+        let answer = guarded(|| pair.police(octets, time)).map_err(|m| with_inputs(m, &steps))?;
         count(tally, &row, before, (octets, time), &answer);
         codes.push(answer.code);
     }
-    guarded(|| judge(&row, &steps, &codes)).map_err(|m| told(m, &steps))
+    guarded(|| judge(&row, &steps, &codes)).map_err(|m| with_inputs(m, &steps))
 }
 
 /// An account of any values: sound, just unsound, or made up.

@@ -105,7 +105,7 @@ fn add(mine: &mut Codes, theirs: &Codes) {
     mine.iter_mut().zip(theirs).for_each(|(m, t)| *m += t);
 }
 
-/// The modes, and what stands for numbers that are none, with their names.
+/// The modes with their names, and a last one for numbers that no mode has.
 fn modes() -> impl Iterator<Item = (usize, String)> {
     let named = |mode| match mode {
         MODES => "no mode".into(),
@@ -207,7 +207,7 @@ impl Tally {
         missing
     }
 
-    /// The codes of these things that hardly came up in a mode, or about a number that is none.
+    /// The codes of these things that hardly came up in a mode, or about a number that no mode has.
     pub fn missing_modes(&self, covers: &[ByMode]) -> Vec<String> {
         let mut missing = vec![];
         for &(what, in_modes, in_none) in covers {
@@ -240,13 +240,13 @@ impl Tally {
         let mut lines = vec![];
         for (what, name, codes) in WHAT {
             let by_mode = &self.by_mode[what as usize];
-            let told = modes().filter_map(|(mode, named)| {
+            let by_name = modes().filter_map(|(mode, named)| {
                 let came_up = came_up(codes, &by_mode[mode])?;
                 Some(format!("{named} ({came_up})"))
             });
-            let told: Vec<String> = told.collect();
-            if !told.is_empty() {
-                lines.push(format!("{name} {}", told.join(", ")));
+            let by_name: Vec<String> = by_name.collect();
+            if !by_name.is_empty() {
+                lines.push(format!("{name} {}", by_name.join(", ")));
             }
         }
         lines

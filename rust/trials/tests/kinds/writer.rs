@@ -92,7 +92,7 @@ fn modes(tables: &Tables, answer: &WriteAnswer) -> Vec<u8> {
     let mut modes = rows.take(tables.account_count).map(|row| row[5]);
     match (answer.code, answer.offset.checked_sub(8)) {
         (0, _) => modes.collect(),
-        (23, Some(behind)) => modes.nth(behind / 9).into_iter().collect(),
+        (23, Some(after_head)) => modes.nth(after_head / 9).into_iter().collect(),
         _ => vec![],
     }
 }
@@ -109,8 +109,8 @@ pub fn run(r: &mut Random, tally: &mut Tally) -> Result<(), Mismatch> {
         link_count: any_count(r, plan.links.len()),
     };
     let room = any_room(r, &tables);
-    let told = |m: Mismatch| m.tables(&tables).octets("room lent", room.run());
-    let (answer, image) = guarded(|| write_both(&tables, &room)).map_err(told)?;
+    let with_inputs = |m: Mismatch| m.tables(&tables).octets("room lent", room.run());
+    let (answer, image) = guarded(|| write_both(&tables, &room)).map_err(with_inputs)?;
     tally.count(What::Write, answer.code);
     for mode in modes(&tables, &answer) {
         tally.count_mode(What::Write, mode, answer.code);
@@ -118,12 +118,13 @@ pub fn run(r: &mut Random, tally: &mut Tally) -> Result<(), Mismatch> {
     accounts
         .stayed("the account rows lent for reading")
         .and_then(|()| links.stayed("the link rows lent for reading"))
-        .map_err(told)?;
+        .map_err(with_inputs)?;
     if answer.code == 0 {
         let lent = ReadOnly::new(r, &image);
         let runs = Runs::ample(r, tables.account_count, tables.link_count);
-        guarded(|| load_back(&lent, &tables, &runs))
-            .map_err(|m| told(runs.told(m)).rig(Rig::of_calls("written", &image, &[])))?;
+        guarded(|| load_back(&lent, &tables, &runs)).map_err(|m| {
+            with_inputs(runs.with_inputs(m)).rig(Rig::of_calls("written", &image, &[]))
+        })?;
     }
     Ok(())
 }
