@@ -87,7 +87,8 @@ fn pairs(this: &OsStr, other: &OsStr, links: usize, standing: Standing) -> Vec<(
 pub fn against(other: &str) {
     let this = std::env::current_exe().expect("a path");
     println!(
-        "Medians of {} rounds of each build, in turn; the ratio is the median of those of two rounds that followed one another.\n{SHARES}\n",
+        "Medians of {} rounds of each build, in turn; the ratio is the median of those of two rounds that followed one another.\n\
+         {SHARES}\n",
         STARTS * TURNS
     );
     println!("| work | this build | the other | ratio | unit |");

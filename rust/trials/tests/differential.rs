@@ -1,7 +1,8 @@
 //! Runs the proved library beside the plain Rust version and, where demand 3 or Q-1 speaks, the judge. Every case comes
 //! from the seed, its kind and its number alone.
 //!
-//! `cargo test --release --offline -p trials --test differential -- [TIMES | 1/PARTS] [--seed N] [--checked] [--only KIND [CASE]]`
+//! `cargo test --release --offline -p trials --test differential -- [TIMES | 1/PARTS] [--seed N] [--checked]
+//! [--only KIND [CASE]]`
 //!
 //! TIMES runs all cases so many times over, 1/PARTS one part of so many. `--checked` refuses a build that doesn't check its
 //! sums; without `--release` the build is a debug build, which does.
