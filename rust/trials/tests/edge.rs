@@ -13,7 +13,7 @@ use trials::{damage, logs};
 /// More calls than any run here has.
 const CALLS: u32 = 5_000;
 
-/// Calls from the first on, as long as the run meets them.
+/// Tries each call from the first on, until the run has no such call; the number of calls that it has.
 fn every_call(mut meets: impl FnMut(u32) -> bool) -> u32 {
     let last = (1..CALLS).find(|&call| !meets(call));
     last.expect("a run that ends") - 1
