@@ -74,27 +74,35 @@ pub(crate) fn read_full(file: i32, room: &mut [u8]) -> Brought
     }
 }
 
-// Writes a whole text and returns whether that was done: a write that was interrupted is tried again, one that took a part is
-// followed by one for the rest.
-pub(crate) fn write_all(file: i32, text: &[u8]) -> bool {
+// What became of a text that was to be written.
+pub(crate) enum Written {
+    All,
+    // A write failed, and errno says why.
+    Failed,
+    // A write took nothing.
+    Nothing,
+}
+
+// Writes a whole text: a write that was interrupted is tried again, one that took a part is followed by one for the rest.
+pub(crate) fn write_all(file: i32, text: &[u8]) -> Written {
     let mut done = 0;
     let mut tries = u64::MAX;
     while 0 < tries {
         if text.len() <= done {
-            return true;
+            return Written::All;
         }
         let rest = &text[done..];
         let got = libc::write(file, rest);
         if 0 < got {
             done += io::count(got, rest);
         } else if got == 0 {
-            return false;
+            return Written::Nothing;
         } else if os::errno() != libc::EINTR {
-            return false;
+            return Written::Failed;
         }
         tries -= 1;
     }
-    false
+    Written::Nothing
 }
 
 // The greater of two statuses.

@@ -1,5 +1,7 @@
 // The turns of a replay: octets of `rig.frames` are read before a turn, and the lines that it put are written after it.
 use crate::edge;
+use crate::edge::Written;
+use libc::STDERR_FILENO;
 use libc::STDOUT_FILENO;
 use replay_turn::Progress;
 use replay_turn::Stop;
@@ -20,11 +22,21 @@ pub(crate) struct Hand {
 // Prints the lines that stand at the front of the room, and returns whether that was done.
 pub(crate) fn print(out: &[u8], written: usize) -> bool {
     let end = octets::least(written, out.len());
-    if edge::write_all(STDOUT_FILENO, &out[0..end]) {
-        return true;
+    let done = edge::write_all(STDOUT_FILENO, &out[0..end]);
+    match done {
+        Written::All => true,
+        Written::Failed => {
+            os::fail(b"replay: the answers can't be written");
+            false
+        }
+        Written::Nothing => {
+            edge::write_all(
+                STDERR_FILENO,
+                b"replay: the answers can't be written: a write took nothing\n",
+            );
+            false
+        }
     }
-    os::fail(b"replay: the answers can't be written");
-    false
 }
 
 // Keeps what is left of the octets at hand, and reads on after it.
