@@ -21,7 +21,10 @@ fn text(page: &str, word: &str) -> String {
 
 /// Returns what the page says that its program prints.
 fn said(page: &str) -> String {
-    let after = page.split_once("It prints `").expect("the sentence 'It prints'").1;
+    let after = page
+        .split_once("It prints `")
+        .expect("the sentence 'It prints'")
+        .1;
     format!("{}\n", after.split_once('`').expect("a closing quote").0)
 }
 
@@ -32,7 +35,14 @@ fn compiled(page: &str) -> PathBuf {
     let program = folder.join("readme");
     fs::write(&source, text(page, "c")).unwrap();
     let ran = Command::new("cc")
-        .args(["-std=c99", "-Wall", "-Wextra", "-Wpedantic", "-Werror", "-I"])
+        .args([
+            "-std=c99",
+            "-Wall",
+            "-Wextra",
+            "-Wpedantic",
+            "-Werror",
+            "-I",
+        ])
         .arg(root().join("include"))
         .arg(&source)
         .arg(root().join("target/staticlib/libexports.a"))
@@ -40,7 +50,11 @@ fn compiled(page: &str) -> PathBuf {
         .arg(&program)
         .output()
         .expect("the C compiler that links Rust programs too");
-    assert!(ran.status.success(), "{}", String::from_utf8_lossy(&ran.stderr));
+    assert!(
+        ran.status.success(),
+        "{}",
+        String::from_utf8_lossy(&ran.stderr)
+    );
     program
 }
 
