@@ -8,8 +8,8 @@ use std::hint::black_box;
 pub const STANDINGS: [(usize, Standing); 6] = [
     (1, Standing::Full),
     (64, Standing::Full),
-    (1, Standing::Rested),
-    (64, Standing::Rested),
+    (1, Standing::Idle),
+    (64, Standing::Idle),
     (1, Standing::Drained),
     (64, Standing::Drained),
 ];

@@ -4,7 +4,7 @@
 //!     bench                                 the whole table
 //!     bench frames|standings|images|replays a part of it
 //!     bench count BOX LINKS OCTETS STANDING one round of frame calls of one box (proved, rust) and nothing else, for a
-//!                                           profiler; STANDING is busy, full, rested or drained
+//!                                           profiler; STANDING is busy, full, idle or drained
 //!     bench replay FOLDER                   the Rust version's replay, as `bench replays` runs it
 //!     bench against PROGRAM                 this build's static library against that of another build's `bench`
 //!     bench serve LINKS OCTETS STANDING     a round of the static library for each line of the input, as `bench against`

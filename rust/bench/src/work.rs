@@ -20,7 +20,7 @@ pub enum Standing {
     /// Credit at capacity: what loading left is put back before every call.
     Full,
     /// A frame so seldom that the time since the last one has nearly always filled the account again.
-    Rested,
+    Idle,
     /// Frames so often that most are short.
     Drained,
 }
@@ -30,7 +30,7 @@ impl Standing {
         match word {
             "busy" => Some(Standing::Busy),
             "full" => Some(Standing::Full),
-            "rested" => Some(Standing::Rested),
+            "idle" => Some(Standing::Idle),
             "drained" => Some(Standing::Drained),
             _ => None,
         }
@@ -40,7 +40,7 @@ impl Standing {
         match self {
             Standing::Busy => "busy",
             Standing::Full => "full",
-            Standing::Rested => "rested",
+            Standing::Idle => "idle",
             Standing::Drained => "drained",
         }
     }
@@ -49,7 +49,7 @@ impl Standing {
     fn gap(self) -> u64 {
         match self {
             Standing::Busy | Standing::Full => 1_100,
-            Standing::Rested => 100_000,
+            Standing::Idle => 100_000,
             Standing::Drained => 64,
         }
     }

@@ -71,11 +71,11 @@ abbrev B : Lft → RattleType
 B κ′ = T.the-row (α κ′)
 
 -- `Reader<'a>`, as the referent's offset in the signature
-abbrev behind : Slot 6
-behind = plain (λ κs. T.the-row (namedLft 6 1 tt κs))
+abbrev lent : Slot 6
+lent = plain (λ κs. T.the-row (namedLft 6 1 tt κs))
 
 abbrev stayed : Stays (f.ended .signature .params) (f.ended .kept)
-stayed = (stay-ref (0 ∷ []) tt behind, (gave-slice (2 ∷ []) tt (plain (λ _. u8)), (gave-slice (3 ∷ []) tt (plain (λ _. u32)), (gave-slice (4 ∷ []) tt (plain (λ _. u64)), (gave-slice (5 ∷ []) tt (plain (λ _. u8)), tt)))))
+stayed = (stay-ref (0 ∷ []) tt lent, (gave-slice (2 ∷ []) tt (plain (λ _. u8)), (gave-slice (3 ∷ []) tt (plain (λ _. u32)), (gave-slice (4 ∷ []) tt (plain (λ _. u64)), (gave-slice (5 ∷ []) tt (plain (λ _. u8)), tt)))))
 
 -- a slice as the contract sees it, and its machine value
 abbrev Sl : Type 0
@@ -260,7 +260,7 @@ module _ {M : Type 1} (𝓤 : URA M) (H : Heap 𝓤) (A : Atoms 𝓤) (W : Given
       (a .0 .ptr .0) (a .0 .ptr .1) (a .0 .name) (a .0 .now) (a .1 .0) (a .1 .1 .0) (a .1 .1 .1 .0) (a .1 .1 .1 .1 .0) C Λ fm known (are .1 .0 .0 .1) (are .1 .1 .0 .0 .1) (are .1 .1 .1 .0 .0 .1) (are .1 .1 .1 .1 .0 .0 .1)))
 
   goes : AllGo 𝓤 H A W 6 (f.signature .params) (f.ended .kept) stayed
-  goes = (goes-ref 𝓤 H A W 6 0 tt behind, (goes-gave-slice 𝓤 H A W 6 2 tt (plain (λ _. u8)), (goes-gave-slice 𝓤 H A W 6 3 tt (plain (λ _. u32)), (goes-gave-slice 𝓤 H A W 6 4 tt (plain (λ _. u64)), (goes-gave-slice 𝓤 H A W 6 5 tt (plain (λ _. u8)), tt)))))
+  goes = (goes-ref 𝓤 H A W 6 0 tt lent, (goes-gave-slice 𝓤 H A W 6 2 tt (plain (λ _. u8)), (goes-gave-slice 𝓤 H A W 6 3 tt (plain (λ _. u32)), (goes-gave-slice 𝓤 H A W 6 4 tt (plain (λ _. u64)), (goes-gave-slice 𝓤 H A W 6 5 tt (plain (λ _. u8)), tt)))))
 
 load-meets : {M : Type 1} (𝓤 : URA M) (H : Heap 𝓤) (A : Atoms 𝓤) (W : Given 𝓤 H A) (mem : Memory → SProp 𝓤) (run : Routine → Fun 𝓤) (𝓣 : Tables 𝓤 H)
     → Triple 𝓤 (𝓣 .C #image-load·load) (LibLoad 𝓤 H A mem run)
