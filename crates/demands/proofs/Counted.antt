@@ -2,11 +2,11 @@
 use Prim.Native.Nat.{ℕ, _≤_}
 use mathlib.Core.Bool.{Bool, true, false, _&&_, and-false, false≢true}
 use mathlib.Core.List.{List, [], _∷_, map, zip, reverse, reverseAux}
-use mathlib.Core.Path.{_≡_, refl, sym, ap, _∙_, subst}
+use mathlib.Core.Path.{_≡_, sym, ap, _∙_}
 use native.Mathlib.Omega.{arith}
 use lib.ListN.{length}
 use lib.Dec.{leb, eqb}
-use borrow.Author.Tests.{eq-eqb, eqb-true, eqb-false}
+use borrow.Author.Tests.{eqb-true, eqb-false}
 use Rattle.lists.specs.Choice.{if_then_else_}
 use Rattle.lists.specs.History.{answers}
 use Rattle.lists.specs.Lists.{only}
@@ -15,14 +15,14 @@ use Rattle.lists.proofs.Tests.{split, both}
 use Rattle.frame.specs.Frame.{lengthCode}
 use Rattle.account_rule.specs.Bucket.{Reached}
 use Rattle.account_rule.specs.Rule.{ruleArrived}
-use Rattle.account_rule.specs.Counted.{reaching, countedFor}
+use Rattle.account_rule.specs.Counted.{reaching}
 use Rattle.account_rule.proofs.Counted.{not-reaching, arrived-counted, past-rises}
 use Rattle.rows.specs.declared.Found.{Found}
 use Rattle.rows.specs.declared.Found.the-variants.{At, Nowhere}
 use Rattle.image_read.specs.Read.{readImage}
 use Rattle.filter.proofs.Filter.{frame-zero}
 use Rattle.switch.specs.Call.{Call}
-use Rattle.demands.specs.Rule.{imageTerms, linkRow, filterCode, names, destinationOctets, meant, passing, reachedIn, accountNamed, ruleCode, ruleOfCalls}
+use Rattle.demands.specs.Rule.{imageTerms, linkRow, filterCode, names, destinationOctets, meant, reachedIn, accountNamed, ruleCode, ruleOfCalls}
 use Rattle.demands.specs.Counted.{reachedWith, countedIn, ReachedByAnswers, TimesNeverFall}
 use Rattle.demands.proofs.Filter.{frame-code, filter-frame, passes-none}
 use Rattle.demands.proofs.Rule.{reached-none, reached-same, reached-more, rule-of-fresh-tables}

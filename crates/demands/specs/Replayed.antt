@@ -18,7 +18,7 @@ use Rattle.image_round_trip.specs.RoundTrips.{tablesIn, loadedTables}
 use Rattle.replay_text.specs.Text.{refusedLine, headerLine}
 use Rattle.replay_turn.specs.Claims.{Reading, Ended, recordsOf}
 use Rattle.replay_turn.specs.Text.{Turn, over, readBy, printed, standingAt, textOf}
-use Rattle.replay_turn.specs.Turn.{openingText}
+use Rattle.replay_turn.specs.Parts.{openingText}
 use Rattle.demands.specs.History.{stateIn}
 use Rattle.demands.specs.Bench.{sent}
 

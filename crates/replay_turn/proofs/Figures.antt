@@ -26,7 +26,7 @@ use Rattle.replay_log.specs.declared.Entry.the-variants.{Frame, More, Cut, End}
 use Rattle.replay_answer.specs.Answer.{recordCall}
 use Rattle.replay_turn.specs.declared.Stop.{Stop}
 use Rattle.replay_turn.specs.declared.Stop.the-variants.{Octets, Room, Finished}
-use Rattle.replay_turn.specs.Log.{Logged, loggedOf, loggedUpTo, loggedFrom}
+use Rattle.replay_turn.specs.Log.{loggedOf, loggedUpTo, loggedFrom}
 use Rattle.replay_turn.specs.Text.{linesFrom, textAfter, textOf}
 use Rattle.replay_turn.specs.Turn.{stopped, withText, mostFrames, stretch}
 use Rattle.replay_turn.specs.Figures.{emptyFrames, emptyText, TurnFigures, StopFigures}

@@ -8,7 +8,7 @@ use lib.Seq.{take-at, take-add, length-take-le, drop-append-seam}
 use Rattle.octets.specs.Runs.{octetsAt, put}
 use Rattle.octets.proofs.Parts.{length-part, part-take}
 use Rattle.octets.proofs.Runs.{put-fits}
-use Rattle.replay_turn.specs.Turn.{keptOf, restOctets, kept}
+use Rattle.replay_turn.specs.Parts.{keptOf, restOctets, kept}
 use Rattle.replay_turn.specs.Claims.{RestKept}
 
 -- by the clamped offsets that the code takes

@@ -1,12 +1,11 @@
 -- Laws of what a log holds. Assumes nothing.
 use Prim.Native.Nat.{ℕ, zero, suc, _+_, _≤_, _<_}
-use mathlib.Core.Bool.{Bool, true, false, false≢true}
+use mathlib.Core.Bool.{Bool, true, false}
 use mathlib.Core.List.{List, [], _∷_, _++_, append-assoc, append-nil, List·Memᴰ, List·Memᴰ·head, List·Memᴰ·tail}
 use mathlib.Core.Path.{_≡_, refl, sym, ap, ap₂, _∙_}
 use native.Mathlib.Omega.{arith}
 use lib.ListN.{length, take, drop, length-append, take-append-drop}
 use lib.Seq.{length-take-le}
-use Rattle.octets.specs.Runs.{octetsAt}
 use Rattle.octets.proofs.Parts.{part-front, part-after}
 use Rattle.switch.specs.Call.{Call, callOf}
 use Rattle.replay_log.specs.Claims.{moved, frameRecord, recordOf}

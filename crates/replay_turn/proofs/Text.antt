@@ -2,7 +2,7 @@
 use Prim.Native.Nat.{ℕ, zero, suc, _+_, _-_, _^_, _≤_, _<_}
 use mathlib.Core.Bool.{Bool, true, false, false≢true}
 use mathlib.Core.List.{List, [], _∷_, _++_, append-assoc, append-nil, List·Memᴰ, List·Memᴰ·head, List·Memᴰ·tail}
-use mathlib.Core.Path.{_≡_, refl, sym, ap, ap₂, _∙_, subst}
+use mathlib.Core.Path.{_≡_, refl, sym, ap, _∙_, subst}
 use native.Mathlib.Omega.{arith}
 use lib.Dec.{leb}
 use lib.ListN.{length, getD, drop, length-append, length-drop}
@@ -12,7 +12,6 @@ use Rattle.lists.specs.History.{answers, final}
 use Rattle.lists.proofs.History.{answers-append}
 use Rattle.lists.proofs.Tests.{split}
 use Rattle.tables.specs.Rows.{Config}
-use Rattle.switch_verdict.specs.Verdict.{Report}
 use Rattle.switch.specs.Call.{State, Call, called}
 use Rattle.switch.specs.History.{callAnswers}
 use Rattle.replay_text.specs.Text.{lineOf, cutLine}
@@ -26,8 +25,8 @@ use Rattle.replay_turn.specs.declared.Stop.{Stop}
 use Rattle.replay_turn.specs.declared.Stop.the-variants.{Octets, Room, Finished, CutOff}
 use Rattle.replay_turn.specs.Log.{Logged, loggedOf, withCall, loggedBy, loggedFrom}
 use Rattle.replay_turn.specs.Turn.{Stretch, stopped, withText, mostFrames, stretchBy, stretch}
-use Rattle.replay_turn.specs.Text.{linesFrom, textAfter, textOf, Standing, standingOf, start, Turn, stretchOf, printedBy, standingAfter, leftBy, over, replaying, concatenated, readBy, printed, standingAt}
-use Rattle.replay_turn.specs.Claims.{Reading, Ended, TextOfPieces, TurnsMoveOn}
+use Rattle.replay_turn.specs.Text.{linesFrom, textAfter, Standing, start, Turn, stretchOf, printedBy, standingAfter, leftBy, over, replaying, concatenated, readBy}
+use Rattle.replay_turn.specs.Claims.{Ended, TextOfPieces, TurnsMoveOn}
 use Rattle.replay_turn.proofs.Log.{logged-next, logged-dropped, entry-settled, call-settled}
 
 -- ---- the text from a frame on is its line and the text after it

@@ -1,16 +1,14 @@
 -- Laws of a turn, one for each place where it ends, and of its start. Assumes nothing.
-use Prim.Native.Nat.{ℕ, zero, suc, _+_, _*_, _-_, _/_, _^_, _≤_, _<_}
-use mathlib.Core.Bool.{Bool, true, false}
-use mathlib.Core.List.{List, [], _∷_, _++_, append-assoc, append-nil}
+use Prim.Native.Nat.{ℕ, suc, _+_, _*_, _-_, _≤_, _<_}
+use mathlib.Core.Bool.{Bool}
+use mathlib.Core.List.{List, [], _∷_, _++_, append-assoc}
 use mathlib.Core.Path.{_≡_, refl, sym, ap, ap₂, _∙_, subst}
 use native.Mathlib.Omega.{arith}
-use lib.Dec.{leb, eqb}
 use types.Run.{OneOf, miss}
 use denote.Enum.Declared.{tagOf}
 use Rattle.replay_log.proofs.Entry.{the-type}
 use lib.ListN.{length, length-append}
 use borrow.Author.Tests.{eq-eqb, ne-eqb, le-leb, lt-leb}
-use Rattle.lists.specs.Choice.{if_then_else_}
 use Rattle.octets.specs.Runs.{put}
 use Rattle.octets.proofs.Runs.{put-none, put-after, length-written}
 use Rattle.tables.specs.Rows.{Config}
@@ -27,7 +25,8 @@ use Rattle.replay_answer.specs.Answer.{Replied, recordCall, repliedOf, replied}
 use Rattle.replay_turn.specs.declared.Stop.{Stop}
 use Rattle.replay_turn.specs.declared.Stop.the-variants.{Octets, Room, Finished}
 use Rattle.replay_turn.specs.declared.Progress.{Progress}
-use Rattle.replay_turn.specs.Turn.{Stretch, stopped, withText, mostFrames, cutStop, stretchBy, stretch, Turned, turnedOf, progressOf, linesIn, turnOf, turned, Lined, linedOf, lined, openingText, openingStop, Opened, openedOf, stoppedBy, opened}
+use Rattle.replay_turn.specs.Turn.{Stretch, stopped, withText, mostFrames, cutStop, stretchBy, stretch, turnedOf, progressOf, turnOf}
+use Rattle.replay_turn.specs.Parts.{Lined, linedOf, lined, openingText, openingStop, Opened, openedOf, stoppedBy, opened}
 
 -- ---- the start
 module _ (code offset n : ℕ) (d e : List ℕ) where

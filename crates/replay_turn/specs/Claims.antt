@@ -1,5 +1,5 @@
 -- What holds of a replay whatever the log and however it is read (document 01, "The replay program"); proved in proofs/.
-use Prim.Native.Nat.{ℕ, suc, _+_, _^_, _≤_, _<_}
+use Prim.Native.Nat.{ℕ, _+_, _^_, _≤_, _<_}
 use mathlib.Core.Bool.{Bool, true, false}
 use mathlib.Core.List.{List, [], _∷_, _++_, List·Memᴰ}
 use mathlib.Core.Path.{_≡_}
@@ -13,7 +13,8 @@ use Rattle.replay_log.specs.declared.Entry.the-variants.{Cut, End}
 use Rattle.replay_turn.specs.declared.Stop.{Stop}
 use Rattle.replay_turn.specs.declared.Stop.the-variants.{Octets, Room, Finished, CutOff}
 use Rattle.replay_turn.specs.Log.{loggedOf, loggedUpTo, loggedFrom}
-use Rattle.replay_turn.specs.Turn.{stretch, kept}
+use Rattle.replay_turn.specs.Turn.{stretch}
+use Rattle.replay_turn.specs.Parts.{kept}
 use Rattle.replay_turn.specs.Text.{Turn, textOf, over, readBy, printed, standingAt}
 
 -- ---- what a log holds

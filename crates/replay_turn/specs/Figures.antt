@@ -1,7 +1,7 @@
 -- Turns in figures (document 01, "The replay program"); proved in proofs/Figures.antt. A record of no frame octets is a frame of
 -- code 1 on any tables, so these hold of all.
 use Prim.Native.Nat.{ℕ, _+_}
-use mathlib.Core.Bool.{Bool, true, false}
+use mathlib.Core.Bool.{true, false}
 use mathlib.Core.List.{List, [], _∷_, _++_, map}
 use mathlib.Core.Path.{_≡_}
 use Rattle.tables.specs.Rows.{Config}
@@ -9,7 +9,8 @@ use Rattle.switch.specs.Call.{State}
 use Rattle.replay_text.specs.Text.{refusedLine, headerLine}
 use Rattle.replay_turn.specs.declared.Stop.the-variants.{Octets, Room, Finished, CutOff}
 use Rattle.replay_turn.specs.Text.{textOf, over}
-use Rattle.replay_turn.specs.Turn.{stopped, mostFrames, stretch, opened, openedOf, progressOf, kept, keptOf}
+use Rattle.replay_turn.specs.Turn.{stopped, mostFrames, stretch, progressOf}
+use Rattle.replay_turn.specs.Parts.{opened, openedOf, kept, keptOf}
 
 -- two records of no frame octets
 abbrev pub emptyFrames : List ℕ

@@ -1,17 +1,15 @@
 -- One turn of a replay (document 01, "The replay program"): the records at hand answered, each with its line, as far as octets
 -- and room allow.
-use Prim.Native.Nat.{ℕ, zero, suc, _-_, _/_, _^_, min}
+use Prim.Native.Nat.{ℕ, zero, suc, _-_, _/_, _^_}
 use mathlib.Core.Bool.{Bool}
 use mathlib.Core.List.{List, [], _++_}
 use lib.ListN.{length}
-use lib.Dec.{leb, eqb}
-use Rattle.codes.specs.Codes
+use lib.Dec.{leb}
 use Rattle.lists.specs.Choice.{if_then_else_}
-use Rattle.octets.specs.Runs.{octetsAt, put}
+use Rattle.octets.specs.Runs.{put}
 use Rattle.tables.specs.Rows.{Config}
-use Rattle.switch.specs.Call.{State, Call, called}
-use Rattle.replay_words.specs.Words.{Appended, appendedOf, appended, nextOffset}
-use Rattle.replay_text.specs.Text.{lineOf, refusedLine, headerLine, cutLine, longestLine}
+use Rattle.switch.specs.Call.{State, called}
+use Rattle.replay_text.specs.Text.{lineOf, cutLine, longestLine}
 use Rattle.replay_log.specs.Records.{nextIn}
 use Rattle.replay_log.specs.declared.Entry.{Entry}
 use Rattle.replay_log.specs.declared.Entry.the-variants.{Frame, More, Cut, End}
@@ -78,52 +76,3 @@ turnOf d a = turnedOf (progressOf (a .at) (a .frames) (length (a .text)) (a .sto
 
 abbrev pub turned : Config → List ℕ → Bool → Progress → List ℕ → State → Turned
 turned g s whole p d t = turnOf d (stretch (linesIn d) g s whole (p .at) (p .frames) t)
-
--- ---- its parts in the code: a line put into the room with the tables after its frame, and what ends a turn
-pub record Lined : Type 0 where
-  pub appended : Appended
-  pub state : State
-
-abbrev pub linedOf : ℕ → List ℕ → State → Lined
-linedOf next d t = record { appended = appendedOf next d; state = t }
-
-abbrev pub lined : Config → State → List ℕ → ℕ → ℕ → Call → Lined
-lined g t d at number f = record { appended = appended d at (lineOf number (called g t f .says)); state = called g t f .state }
-
--- ---- the start: the header where an image was accepted, else the only line
-abbrev pub openingText : ℕ → ℕ → List ℕ
-openingText code offset = if eqb code Codes.success then headerLine else refusedLine code offset
-
-abbrev pub openingStop : ℕ → Stop
-openingStop code = if eqb code Codes.success then Octets else Finished
-
-pub record Opened : Type 0 where
-  pub progress : Progress
-  pub room : List ℕ
-
-abbrev pub openedOf : Progress → List ℕ → Opened
-openedOf p d = record { progress = p; room = d }
-
-abbrev pub stoppedBy : List ℕ → ℕ → ℕ → ℕ → Entry → Opened
-stoppedBy d at k written (Frame r) = openedOf (progressOf at k written Finished) d
-stoppedBy d at k written Cut = openedOf (progressOf at k (nextOffset d written cutLine) cutStop) (put d written cutLine)
-stoppedBy d at k written More = openedOf (progressOf at k written Octets) d
-stoppedBy d at k written End = openedOf (progressOf at k written Finished) d
-
-abbrev pub opened : ℕ → ℕ → List ℕ → Opened
-opened code offset d =
-    openedOf (progressOf 0 0 (nextOffset d 0 (openingText code offset)) (openingStop code)) (put d 0 (openingText code offset))
-
--- ---- between turns: the octets from `at` on, of the first `filled`, stand at the front, for more to be read after them
-pub record Kept : Type 0 where
-  pub filled : ℕ
-  pub log : List ℕ
-
-abbrev pub keptOf : ℕ → List ℕ → Kept
-keptOf n s = record { filled = n; log = s }
-
-abbrev pub restOctets : List ℕ → ℕ → ℕ → ℕ
-restOctets s at filled = min filled (length s) - min at (min filled (length s))
-
-abbrev pub kept : List ℕ → ℕ → ℕ → Kept
-kept s at filled = keptOf (restOctets s at filled) (put s 0 (octetsAt (restOctets s at filled) s at))

@@ -11,7 +11,7 @@ use Rattle.tables_rules.specs.Rules.{portCount}
 use Rattle.rows.specs.declared.Found.the-variants.{At}
 use Rattle.filter.specs.Filter.{frameCode}
 use Rattle.switch_verdict.specs.Verdict.{Report}
-use Rattle.switch.specs.Call.{State, stateOf, Call, callOf, After, afterOf, accountsInUse, accountHeld}
+use Rattle.switch.specs.Call.{State, stateOf, Call, callOf, afterOf, accountsInUse, accountHeld}
 use Rattle.switch.specs.Call.{refusedWith, called}
 
 -- demand 1: a call's code is one of the table's, 0 to 10

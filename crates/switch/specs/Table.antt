@@ -1,6 +1,5 @@
 -- The table of codes of the frame call, line by line, for any tables, counts, frame, port and time whatsoever (document
 -- 01, "Codes, in order of checking"); proved in proofs/Claims.antt.
-use Prim.Native.Nat.{ℕ}
 use mathlib.Core.Bool.{true, not, _&&_}
 use mathlib.Core.List.{List, [], _∷_}
 use mathlib.Core.Path.{_≡_}

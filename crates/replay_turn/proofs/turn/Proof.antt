@@ -1,6 +1,6 @@
 -- `turn`: record by record. The loop's invariant is `Along`: the lines so far stand in the room, and what the turn still has to do
 -- is the rest of what it has to do in all. Assumes nothing.
-use Prim.Native.Nat.{_+_, _-_}
+use Prim.Native.Nat.{_-_}
 use mathlib.Core.Path.{_≡_, refl}
 use native.Mathlib.Omega.{arith}
 use lib.ListN.{length}
