@@ -120,7 +120,8 @@ fn status_of(stop: Stop) -> u8 {
     }
 }
 
-// Turn after turn until the replay is over; returns how it ended. The turns are counted down, since nothing says that a file ends.
+// Turn after turn until the replay is over; returns how the replay ended. The turns are counted down, since nothing says that a
+// file ends.
 pub(crate) fn run(
     file: i32,
     log: &mut [u8],

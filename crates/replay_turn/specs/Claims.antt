@@ -56,7 +56,8 @@ pub record TextOf (g : Config) (t : State) (log text : List ℕ) (stop : Stop) :
 
 abbrev pub TextOfPieces : Type 0
 TextOfPieces =
-    (g : Config) (t : State) (cs ds : List Turn) → ((c : Turn) → List·Memᴰ c cs → Reading c) → ((c : Turn) → List·Memᴰ c ds → Ended c)
+    (g : Config) (t : State) (cs ds : List Turn)
+    → ((c : Turn) → List·Memᴰ c cs → Reading c) → ((c : Turn) → List·Memᴰ c ds → Ended c)
     → length (readBy cs) < 2 ^ 64
     → over (standingAt g t (cs ++ ds) .stop) ≡ true
     → TextOf g t (readBy cs) (printed g t (cs ++ ds)) (standingAt g t (cs ++ ds) .stop)

@@ -136,7 +136,8 @@ fn end_turn(entry: Entry, at: usize, frames: u64, written: usize, out: &mut [u8]
 }
 
 // Answers the records at hand from the offset where the replay stands, and puts their lines at the front of the room: as many as
-// fit there whatever they are, up to the first record that isn't there whole. `whole` says that the log has no octets after these.
+// fit there whatever they are, up to the first record that isn't there whole. `whole` says that the log has no octets after
+// these.
 pub fn turn(
     log: &[u8],
     whole: bool,
