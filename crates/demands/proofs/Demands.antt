@@ -32,6 +32,7 @@ use Rattle.replay_text.proofs.Claims.{lines-fit, lines-by-verdict, sheet-lines,
 use Rattle.replay_log.proofs.Settled.{next-settled, next-moved, never-more, frame-inside}
 use Rattle.replay_log.proofs.Claims.{record-reads-back, no-whole-record, record-figures}
 use Rattle.replay_answer.proofs.Claims.{long-frame-skipped, record-answered, replied-parts}
+use Rattle.replay_turn.proofs.Ends.{replay-ends}
 use Rattle.replay_turn.proofs.Figures.{turn-figures, stop-figures}
 use Rattle.replay_turn.proofs.Keeping.{rest-kept}
 use Rattle.replay_turn.proofs.Log.{enough-records, log-reads-back}
@@ -224,6 +225,7 @@ replay =
       text-of-pieces = text-of-pieces;
       log-reads-back = log-reads-back;
       enough-records = enough-records;
+      replay-ends = replay-ends;
       turns-move-on = turns-move-on;
       rest-kept = rest-kept;
       turn-figures = turn-figures;

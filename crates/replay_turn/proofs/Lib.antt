@@ -1,3 +1,4 @@
+pub mod Ends
 pub mod Figures
 pub mod Keeping
 pub mod Log

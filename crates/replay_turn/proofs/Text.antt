@@ -300,7 +300,7 @@ concatenated-append [] yss = refl
 concatenated-append (xs ∷ xss) yss =
     ap (λ (zs : List ℕ). xs ++ zs) (concatenated-append xss yss) ∙ sym (append-assoc xs (concatenated xss) (concatenated yss))
 
-final-append : (g : Config) (cs ds : List Turn) (s : Standing) → final (replaying g) s (cs ++ ds) ≡ final (replaying g) (final (replaying g) s cs) ds
+pub final-append : (g : Config) (cs ds : List Turn) (s : Standing) → final (replaying g) s (cs ++ ds) ≡ final (replaying g) (final (replaying g) s cs) ds
 unfolding final
 final-append g [] ds s = refl
 final-append g (c ∷ cs) ds s = final-append g cs ds (replaying g .leaves s c)

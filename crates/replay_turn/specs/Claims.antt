@@ -62,6 +62,15 @@ TextOfPieces =
     → over (standingAt g t (cs ++ ds) .stop) ≡ true
     → TextOf g t (readBy cs) (printed g t (cs ++ ds)) (standingAt g t (cs ++ ds) .stop)
 
+-- and it is over: a turn after the log's end that has room for more lines than octets were read is the last
+abbrev pub lastTurn : ℕ → Turn
+lastTurn n = record { piece = []; whole = true; lines = n }
+
+abbrev pub ReplayEnds : Type 0
+ReplayEnds =
+    (g : Config) (t : State) (cs : List Turn) (n : ℕ) → length (readBy cs) < n
+    → over (standingAt g t (cs ++ (lastTurn n ∷ [])) .stop) ≡ true
+
 -- a turn moves on: it stops for room only after as many lines as there was room for, and for octets only where the log may have
 -- more and fewer are left than the longest record has
 abbrev pub TurnsMoveOn : Type 0
