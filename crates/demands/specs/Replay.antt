@@ -1,5 +1,5 @@
 -- The replay's part of demand 2 (document 01, "The replay program" and case 14 of the bench sheet): the records of a log, the
--- answer to each, and the lines that are printed. Proved in proofs/Demands.antt.
+-- answer to each, the text of the whole and its lines. Proved in proofs/Demands.antt.
 use Rattle.replay_words.specs.Claims.{DigitsReadBack, NoLeadingZero, DigitFigures, WordFigures}
 use Rattle.replay_text.specs.Claims.{LinesFit, LinesByVerdict, SheetLines, OtherLines}
 use Rattle.replay_log.specs.Claims.{NextSettled, NextMoved, NeverMore, FrameInside, RecordReadsBack, NoWholeRecord}

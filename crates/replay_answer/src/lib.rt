@@ -44,8 +44,8 @@ fn judge(
     )
 }
 
-// The answer to a frame of a log, by the tables that were loaded. It is copied into the frame buffer and handed on as a
-// part of it; one that is longer than the buffer is skipped over: nothing of it is copied.
+// The answer to a frame of a log, by the tables that were loaded. The frame is copied into the frame buffer and handed on as a
+// part of the buffer; a frame that is longer than the buffer is skipped over, and nothing is copied.
 pub fn answer(
     log: &[u8],
     logged: FrameRecord,

@@ -36,7 +36,7 @@ longestRecord = tagAndLength + 65535
 unfoldable pub unsettled : Bool → Entry
 unsettled whole = if whole then Cut else More
 
--- a record that is there whole
+-- a record that is complete
 unfoldable pub frameRecordAt : List ℕ → ℕ → FrameRecord
 frameRecordAt s at =
     record {

@@ -41,7 +41,7 @@ pub enum Entry {
     Frame(FrameRecord),
     // Too few octets at hand to say.
     More,
-    // No record: another tag, too short a length, or the log's end within it.
+    // A malformed record (tag not 16, or length under 9), or one within which the log ends.
     Cut,
     // The log's end.
     End,

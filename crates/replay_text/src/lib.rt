@@ -1,5 +1,5 @@
-// The lines of a replay. Each function writes one at an offset of the room lent and answers the offset after it; without
-// room for the whole line it writes nothing and answers the offset itself. Every function is total.
+// The lines of a replay. Each function writes a line at an offset of the lent room and returns the offset after the line; a line
+// that doesn't fit whole is not written, and the offset itself is returned. Every function is total.
 ghost use Prim.Native.Nat.{_≤_};
 ghost use mathlib.Core.Path.{_≡_};
 ghost use lib.ListN.{length};
@@ -47,7 +47,7 @@ fn put_code_line(out: &mut [u8], at: usize, number: u64, code: u8) -> usize
     replay_words::put_text(&line, c, out, at)
 }
 
-// The line of a frame: its number, the code of its answer, and the credit that this carries. It is no longer than the longest.
+// The line of a frame: its number, the code of its answer, and the credit of that answer. No such line is longer than the longest.
 pub fn put_line(out: &mut [u8], at: usize, number: u64, verdict: Verdict) -> usize
     ensures { λ r. ⌜ appendedOf r (now (out .exit)) ≡ appended (now (out .entry)) at (lineOf number (reported verdict)) ⌝ }
     ensures { λ _. ⌜ length (lineOf number (reported verdict)) ≤ longestLine ⌝ }

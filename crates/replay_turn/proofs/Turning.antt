@@ -70,7 +70,7 @@ module _ (d : List ℕ) (at k written : ℕ) where
   pub stop-frame : {e : Entry} (r : FrameRecord) → e ≡ Frame r → openedOf (progressOf at k written Finished) d ≡ stoppedBy d at k written e
   stop-frame r q = ap (stoppedBy d at k written) (sym q)
 
--- an entry with another tag than a frame's is none
+-- an entry with another tag than a frame's is no frame
 pub other-tag : (e : Entry) → OneOf (1 ∷ 2 ∷ 3 ∷ []) (tagOf the-type e) → (r : FrameRecord) → e ≡ Frame r → ⊥
 other-tag e o r q = miss (1 ∷ 2 ∷ 3 ∷ []) 0 tt (subst (λ (x : Entry). OneOf (1 ∷ 2 ∷ 3 ∷ []) (tagOf the-type x)) q o)
 

@@ -19,9 +19,9 @@ pub enum Stop {
     Octets,
     // The lines are to be written, so that the room is free.
     Room,
-    // It is over: the log has ended, or the image was refused.
+    // The replay is over: the log has ended, or the image was refused.
     Finished,
-    // It is over: the log is cut.
+    // The replay is over: the log is cut.
     CutOff,
 }
 
@@ -136,7 +136,7 @@ fn end_turn(entry: Entry, at: usize, frames: u64, written: usize, out: &mut [u8]
 }
 
 // Answers the records at hand from the offset where the replay stands, and puts their lines at the front of the room: as many as
-// fit there whatever they are, up to the first record that isn't there whole. `whole` says that the log has no octets after
+// fit there whatever they are, up to the first record that is not complete. `whole` says that the log has no octets after
 // these.
 pub fn turn(
     log: &[u8],

@@ -1,5 +1,5 @@
-// The words of a text: each function appends one at an offset of the room lent and answers the next offset; without room
-// for the whole of it, it writes nothing and answers the offset itself. Every function is total.
+// The words of a text. Each function appends a word at an offset of the lent room and returns the next offset; a word that doesn't
+// fit whole is not written, and the offset itself is returned. Every function is total.
 ghost use mathlib.Core.Path.{_≡_};
 ghost use Rattle.octets.specs.Runs.{octetsAt};
 ghost use Rattle.replay_words.specs.Words.{wordOf, appended, appendedOf};

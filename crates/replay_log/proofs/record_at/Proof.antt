@@ -8,7 +8,7 @@ use borrow.Author.Needs.{needs}
 use Rattle.replay_log.proofs.record_at.Statement.{statement}
 use Rattle.replay_log.proofs.record_at.Tie as tie
 
--- past the second test the record is there whole
+-- past the second test the record is complete
 inside : (c : tie.Else2) → c .before .before .before .before .before .args .at + (tagAndLength + c .before .before .before .before .before .args .field .size) ≤ length (c .before .before .before .before .before .args .log .now)
 inside c = field-inside _ _ (c .before .before .before .before .before .args .whole) _ (c .before .before .before .before .before .pre) (c .if2 .left)
 
