@@ -326,3 +326,28 @@ fn comments_say_what_the_octets_are() {
     }
     assert!(said >= 30, "{said} lines");
 }
+
+#[test]
+fn the_line_of_bash_writes_the_octets() {
+    let page = formats();
+    let function: String = block(&page, "bash")
+        .unwrap()
+        .iter()
+        .map(|(_, line)| format!("{line}\n"))
+        .collect();
+    for word in ["image", "log"] {
+        let text: String = block(&page, word)
+            .unwrap()
+            .iter()
+            .map(|(_, line)| format!("{line}\n"))
+            .collect();
+        let source = Path::new(env!("CARGO_TARGET_TMPDIR")).join(format!("{word}.txt"));
+        fs::write(&source, text).unwrap();
+        let ran = Command::new("bash")
+            .args(["-c", &format!("{function}octets")])
+            .stdin(fs::File::open(&source).unwrap())
+            .output()
+            .expect("bash");
+        assert_eq!(ran.stdout, block_octets(&page, word).unwrap(), "{word}");
+    }
+}
