@@ -32,7 +32,10 @@ use Rattle.replay_text.proofs.Claims.{lines-fit, lines-by-verdict, sheet-lines,
 use Rattle.replay_log.proofs.Settled.{next-settled, next-moved, never-more, frame-inside}
 use Rattle.replay_log.proofs.Claims.{record-reads-back, no-whole-record, record-figures}
 use Rattle.replay_answer.proofs.Claims.{long-frame-skipped, record-answered, replied-parts}
+use Rattle.replay_turn.proofs.Begins.{beginnings}
 use Rattle.replay_turn.proofs.Ends.{replay-ends}
+use Rattle.replay_turn.proofs.Lines.{text-by-frames}
+use Rattle.replay_turn.proofs.Rest.{turn-is-call}
 use Rattle.replay_turn.proofs.Figures.{turn-figures, stop-figures}
 use Rattle.replay_turn.proofs.Keeping.{rest-kept}
 use Rattle.replay_turn.proofs.Log.{enough-records, log-reads-back}
@@ -226,6 +229,9 @@ replay =
       log-reads-back = log-reads-back;
       enough-records = enough-records;
       replay-ends = replay-ends;
+      text-by-frames = text-by-frames;
+      beginnings = beginnings;
+      turn-is-call = turn-is-call;
       turns-move-on = turns-move-on;
       rest-kept = rest-kept;
       turn-figures = turn-figures;

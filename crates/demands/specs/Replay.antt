@@ -5,7 +5,8 @@ use Rattle.replay_text.specs.Claims.{LinesFit, LinesByVerdict, SheetLines, Othe
 use Rattle.replay_log.specs.Claims.{NextSettled, NextMoved, NeverMore, FrameInside, RecordReadsBack, NoWholeRecord}
 use Rattle.replay_log.specs.Figures.{RecordFigures}
 use Rattle.replay_answer.specs.Claims.{LongFrameSkipped, RecordAnswered, RepliedParts}
-use Rattle.replay_turn.specs.Claims.{EnoughRecords, LogReadsBack, TextOfPieces, ReplayEnds, TurnsMoveOn, RestKept}
+use Rattle.replay_turn.specs.Claims.{EnoughRecords, LogReadsBack, TextOfPieces, TurnsMoveOn, RestKept}
+use Rattle.replay_turn.specs.Joins.{TurnIsCall, ReplayEnds, TextByFrames, Beginnings}
 use Rattle.replay_turn.specs.Figures.{TurnFigures, StopFigures}
 use Rattle.demands.specs.Replayed.{ReplayOfRig, RefusedRig, CaseFourteen}
 
@@ -30,6 +31,9 @@ pub record Replay : Type 0 where
   pub log-reads-back : LogReadsBack
   pub enough-records : EnoughRecords
   pub replay-ends : ReplayEnds
+  pub text-by-frames : TextByFrames
+  pub beginnings : Beginnings
+  pub turn-is-call : TurnIsCall
   pub turns-move-on : TurnsMoveOn
   pub rest-kept : RestKept
   pub turn-figures : TurnFigures

@@ -112,10 +112,10 @@ pub(crate) fn greatest(a: u8, b: u8) -> u8 {
 
 // Hands the status to the launcher: a digit and a line end.
 pub(crate) fn report(status: u8) {
-    let digit = if status <= WRITE_FAILED {
+    let digit = if status < WRITE_FAILED {
         DIGIT_ZERO + status
     } else {
-        DIGIT_ZERO
+        DIGIT_ZERO + WRITE_FAILED
     };
     write_all(STATUS_FILENO, &[digit, LINE_END]);
 }

@@ -104,7 +104,7 @@ fn one_turn(
 }
 
 // Whether a replay is over.
-fn is_over(stop: Stop) -> bool {
+pub(crate) fn is_over(stop: Stop) -> bool {
     match stop {
         Stop::Finished => true,
         Stop::CutOff => true,
@@ -126,6 +126,7 @@ pub(crate) fn run(
     file: i32,
     log: &mut [u8],
     first: Hand,
+    start: Progress,
     settings: Settings,
     out: &mut [u8],
     accounts: &[u8],
@@ -134,12 +135,7 @@ pub(crate) fn run(
     links: &[u8],
 ) -> u8 {
     let mut hand = first;
-    let mut progress = Progress {
-        at: 0,
-        frames: 0,
-        written: 0,
-        stop: Stop::Octets,
-    };
+    let mut progress = start;
     let mut turns = u64::MAX;
     while 0 < turns {
         hand = next_hand(file, log, progress, hand);
@@ -167,5 +163,5 @@ pub(crate) fn run(
         }
         turns -= 1;
     }
-    edge::REPLAYED
+    edge::READ_FAILED
 }

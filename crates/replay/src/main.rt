@@ -28,6 +28,7 @@ fn open(path: &[u8], refusal: &[u8]) -> i32 {
 // Replays an accepted image's log; returns how that ended.
 fn replay_log(
     loaded: ImageAnswer,
+    start: Progress,
     out: &mut [u8],
     accounts: &[u8],
     credits: &mut [u32],
@@ -50,6 +51,7 @@ fn replay_log(
         file,
         &mut octets,
         first,
+        start,
         settings,
         out,
         accounts,
@@ -76,11 +78,13 @@ fn replay_image(image: &[u8]) -> u8 {
     if !log::print(&out, start.written) {
         return edge::WRITE_FAILED;
     }
-    if loaded.code != codes::SUCCESS {
+    let stop = start.stop;
+    if log::is_over(stop) {
         return edge::IMAGE_REFUSED;
     }
     replay_log(
         loaded,
+        start,
         &mut out,
         &accounts,
         &mut credits,

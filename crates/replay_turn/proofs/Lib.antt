@@ -1,6 +1,9 @@
+pub mod Begins
 pub mod Ends
 pub mod Figures
 pub mod Keeping
+pub mod Lines
 pub mod Log
+pub mod Rest
 pub mod Text
 pub mod Turning

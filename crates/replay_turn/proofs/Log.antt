@@ -61,7 +61,7 @@ enough-records s at n h = by-bounds s n (suc (length s)) at (omega arith) (omega
 
 -- ---- octets before
 module _ (t s : List ℕ) where
-  call-moved : (r : FrameRecord) (at : ℕ) → recordCall (t ++ s) (record { time = r .time; port = r .port; start = length t + r .start; size = r .size; next = at })
+  pub call-moved : (r : FrameRecord) (at : ℕ) → recordCall (t ++ s) (record { time = r .time; port = r .port; start = length t + r .start; size = r .size; next = at })
       ≡ recordCall s r
   call-moved r at = ap (λ (os : List ℕ). callOf os (r .port) (r .time)) (part-after (r .size) t s (length t) (r .start) refl)
 

@@ -100,6 +100,10 @@ module _ (g : Config) (s : List ℕ) (w : Bool) (d₀ : List ℕ) (at₀ k₀ : 
     pub fits : written + longestLine * left ≤ length d₀
     pub same : withText text (stretch left g s w at k t) ≡ stretch most g s w at₀ k₀ t₀
 
+  -- what a turn returns, and that the room holds all of its text
+  abbrev Ends : Progress → List ℕ → State → Type 0
+  Ends p c t = (turnedOf p c t ≡ turnOf d₀ (stretch most g s w at₀ k₀ t₀)) × (p .written ≤ length c)
+
   pub along-start : longestLine * most ≤ length d₀ → Along d₀ at₀ k₀ t₀ 0 most
   along-start h = record { text = []; room = sym (put-none d₀ 0); here = refl; fits = omega arith; same = refl }
 
@@ -120,21 +124,26 @@ module _ (g : Config) (s : List ℕ) (w : Bool) (d₀ : List ℕ) (at₀ k₀ : 
     -- the turn ends
     ended : (e xs : List ℕ) (n : ℕ) (v : Stop) → stretch left g s w at k t ≡ stopped xs at k t v
         → e ≡ put d written xs → n ≡ written + length xs → written + length xs ≤ length d₀
-        → turnedOf (progressOf at k n v) e t ≡ turnOf d₀ (stretch most g s w at₀ k₀ t₀)
+        → Ends (progressOf at k n v) e t
     ended e xs n v q p m l =
-        ap₂ (λ (i : ℕ) (c : List ℕ). turnedOf (progressOf at k i v) c t) (m ∙ sym (length-on xs)) (put-on e xs p l)
-        ∙ ap (turnOf d₀) (ap (withText (a .text)) (sym q) ∙ a .same)
+        let z : length e ≡ length d₀ = length-written d₀ 0 (a .text ++ xs) e (put-on e xs p l) in (
+          ap₂ (λ (i : ℕ) (c : List ℕ). turnedOf (progressOf at k i v) c t) (m ∙ sym (length-on xs)) (put-on e xs p l)
+              ∙ ap (turnOf d₀) (ap (withText (a .text)) (sym q) ∙ a .same),
+          omega arith,
+        )
 
     -- with no more text
-    ended-here : (v : Stop) → stretch left g s w at k t ≡ stopped [] at k t v
-        → turnedOf (progressOf at k written v) d t ≡ turnOf d₀ (stretch most g s w at₀ k₀ t₀)
+    ended-here : (v : Stop) → stretch left g s w at k t ≡ stopped [] at k t v → Ends (progressOf at k written v) d t
     ended-here v q = let h = a .fits in ended d [] written v q (sym (put-none d written)) (omega arith) (omega arith)
 
-    pub along-full : left ≤ 0 → turnedOf (progressOf at k written Room) d t ≡ turnOf d₀ (stretch most g s w at₀ k₀ t₀)
+    pub along-full : left ≤ 0 → Ends (progressOf at k written Room) d t
     unfolding stretch
     along-full e = let z : left ≡ 0 = omega arith in ended-here Room (ap (λ (m : ℕ). stretch m g s w at k t) z)
 
     module _ (more : 0 < left) where
+      as-opened : (p : Progress) (c : List ℕ) (x : Opened) → openedOf p c ≡ x → Ends (x .progress) (x .room) t → Ends p c t
+      as-opened p c x o = subst (λ (x : Opened). Ends (x .progress) (x .room) t) (sym o)
+
       one-more : left ≡ suc (left - 1)
       one-more = omega arith
 
@@ -145,23 +154,23 @@ module _ (g : Config) (s : List ℕ) (w : Bool) (d₀ : List ℕ) (at₀ k₀ : 
       stops e xs v q p = ap (λ (m : ℕ). stretch m g s w at k t) one-more ∙ stretch-by (left - 1) g s w at k t e q ∙ p
 
       pub along-stop : (e : Entry) (p : Progress) (c : List ℕ) → e ≡ nextIn s at w → ((r : FrameRecord) → e ≡ Frame r → ⊥)
-          → openedOf p c ≡ stoppedBy d at k written e → turnedOf p c t ≡ turnOf d₀ (stretch most g s w at₀ k₀ t₀)
+          → openedOf p c ≡ stoppedBy d at k written e → Ends p c t
       along-stop (Frame r) p c q n o = absurd (n r refl)
-      along-stop More p c q n o = ap (λ (x : Opened). turnedOf (x .progress) (x .room) t) o ∙ ended-here Octets (stops More [] Octets (sym q) refl)
+      along-stop More p c q n o = as-opened p c _ o (ended-here Octets (stops More [] Octets (sym q) refl))
       along-stop Cut p c q n o =
           let h = a .fits in
           let f : written + length cutLine ≤ length d₀ = omega arith in
           let m : nextOffset d written cutLine ≡ written + length cutLine = appended-next d written cutLine _ (put d written cutLine) refl (omega (arith, long)) in
-          ap (λ (x : Opened). turnedOf (x .progress) (x .room) t) o
-          ∙ ended (put d written cutLine) cutLine (nextOffset d written cutLine) cutStop (stops Cut cutLine cutStop (sym q) refl) refl m f
-      along-stop End p c q n o = ap (λ (x : Opened). turnedOf (x .progress) (x .room) t) o ∙ ended-here Finished (stops End [] Finished (sym q) refl)
+          as-opened p c _ o
+          (ended (put d written cutLine) cutLine (nextOffset d written cutLine) cutStop (stops Cut cutLine cutStop (sym q) refl) refl m f)
+      along-stop End p c q n o = as-opened p c _ o (ended-here Finished (stops End [] Finished (sym q) refl))
 
       -- at a frame that can't be numbered
       pub along-many : (e : Entry) (r : FrameRecord) (p : Progress) (c : List ℕ) → e ≡ nextIn s at w → e ≡ Frame r → mostFrames ≤ k
-          → openedOf p c ≡ stoppedBy d at k written End → turnedOf p c t ≡ turnOf d₀ (stretch most g s w at₀ k₀ t₀)
+          → openedOf p c ≡ stoppedBy d at k written End → Ends p c t
       along-many e r p c q f z o =
-          ap (λ (x : Opened). turnedOf (x .progress) (x .room) t) o
-          ∙ ended-here Finished (ap (λ (m : ℕ). stretch m g s w at k t) one-more ∙ stretch-many (left - 1) g s w at k t r (sym q ∙ f) z)
+          as-opened p c _ o
+          (ended-here Finished (ap (λ (m : ℕ). stretch m g s w at k t) one-more ∙ stretch-many (left - 1) g s w at k t r (sym q ∙ f) z))
 
       -- at any other
       module _ (x : Entry) (r : FrameRecord) (n : ℕ) (e : List ℕ) (state : State) (q : x ≡ nextIn s at w) (f : x ≡ Frame r) (l : k < mostFrames) where

@@ -27,7 +27,7 @@ unfoldable pub recordsOf : List Call → List ℕ
 recordsOf [] = []
 recordsOf (f ∷ h) = recordOf (f .time) (f .port) (f .octets) ++ recordsOf h
 
--- calls whose time, port and frame a record can hold
+-- calls whose time and frame a record can hold
 pub record Recordable (f : Call) : Type 0 where
   pub time : f .time < 2 ^ 64
   pub octets : 9 + length (f .octets) < 2 ^ 16
@@ -61,15 +61,6 @@ TextOfPieces =
     → length (readBy cs) < 2 ^ 64
     → over (standingAt g t (cs ++ ds) .stop) ≡ true
     → TextOf g t (readBy cs) (printed g t (cs ++ ds)) (standingAt g t (cs ++ ds) .stop)
-
--- and it is over: a turn after the log's end that has room for more lines than octets were read is the last
-abbrev pub lastTurn : ℕ → Turn
-lastTurn n = record { piece = []; whole = true; lines = n }
-
-abbrev pub ReplayEnds : Type 0
-ReplayEnds =
-    (g : Config) (t : State) (cs : List Turn) (n : ℕ) → length (readBy cs) < n
-    → over (standingAt g t (cs ++ (lastTurn n ∷ [])) .stop) ≡ true
 
 -- a turn moves on: it stops for room only after as many lines as there was room for, and for octets only where the log may have
 -- more and fewer are left than the longest record has

@@ -19,11 +19,12 @@ emptyFrames =
     ∷ 16 ∷ 0 ∷ 9 ∷ 0 ∷ 0 ∷ 0 ∷ 0 ∷ 0 ∷ 0 ∷ 0 ∷ 6 ∷ 1
     ∷ []
 
--- `1 1 -` and `2 1 -`; with `cut` after them where another tag follows
+-- `1 1 -` and `2 1 -`
 abbrev pub emptyText : List ℕ
 emptyText = 49 ∷ 32 ∷ 49 ∷ 32 ∷ 45 ∷ 10 ∷ 50 ∷ 32 ∷ 49 ∷ 32 ∷ 45 ∷ 10 ∷ []
 
--- the text of these logs; turns with room for two lines, for one, and for one after it; octets asked for, and the log's end
+-- the text of these records, with `cut` after it where another tag follows; turns with room for two lines and for one; from the
+-- second record on, where more octets may follow; to the log's end; at another tag
 abbrev pub TurnFigures : Type 0
 TurnFigures =
     (g : Config) (t : State)

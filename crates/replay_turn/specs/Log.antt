@@ -32,6 +32,6 @@ unfoldable pub loggedUpTo : ℕ → List ℕ → ℕ → Logged
 loggedUpTo zero s at = loggedOf [] false
 loggedUpTo (suc n) s at = loggedBy (loggedUpTo n s) s (nextIn s at true)
 
--- all of them: a record has octets, so there are fewer than these
+-- all records: each has an octet or more, so there are no more records than octets
 abbrev pub loggedFrom : List ℕ → ℕ → Logged
 loggedFrom s at = loggedUpTo (suc (length s)) s at

@@ -59,7 +59,7 @@ over Room = false
 over Finished = true
 over CutOff = true
 
--- what it prints, and where it leaves the replay; nothing where the replay is over
+-- what a turn prints, and where it leaves the replay; nothing where the replay is over
 abbrev pub printedBy : Config → Standing → Turn → Stop → List ℕ
 printedBy g s c Finished = []
 printedBy g s c CutOff = []

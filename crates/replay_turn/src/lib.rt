@@ -137,7 +137,7 @@ fn end_turn(entry: Entry, at: usize, frames: u64, written: usize, out: &mut [u8]
 
 // Answers the records at hand from the offset where the replay stands, and puts their lines at the front of the room: as many as
 // fit there whatever they are, up to the first record that is not complete. `whole` says that the log has no octets after
-// these.
+// these. Of `from` only the offset and the number of frames are read.
 pub fn turn(
     log: &[u8],
     whole: bool,
@@ -157,6 +157,7 @@ pub fn turn(
         from
         (now (out .entry))
         (stateOf (now (credits .entry)) (now (lasts .entry))) ⌝ }
+    ensures { λ r. ⌜ r .written ≤ length (now (out .exit)) ⌝ }
 {
     let mut buffer = [0u8; frame::LARGEST_FRAME];
     let mut left = out.len() / replay_text::LONGEST_LINE;
