@@ -1,5 +1,5 @@
 -- What a replay prints: the text that the turns print is that of the image's own tables, and case 14. Assumes nothing.
-use Prim.Native.Nat.{ℕ}
+use Prim.Native.Nat.{ℕ, _+_, _^_, _<_}
 use mathlib.Core.Bool.{Bool, true, false}
 use mathlib.Core.List.{List, [], _∷_, _++_, append-nil, append-assoc, headD, List·Memᴰ, List·Memᴰ·not-nil, List·Memᴰ·cases-cons}
 use mathlib.Core.Logic.{⊎-elim}
@@ -7,7 +7,7 @@ use mathlib.Core.Option.{none, some}
 use mathlib.Core.Path.{_≡_, refl, sym, ap, ap₂, _∙_, subst}
 use native.Mathlib.Omega.{arith}
 use lib.Dec.{lit<}
-use lib.ListN.{length, take, replicate}
+use lib.ListN.{length}
 use borrow.Author.Tests.{eq-eqb, ne-eqb}
 use Rattle.lists.specs.Choice.{if_then_else_}
 use Rattle.lists.specs.History
@@ -24,21 +24,21 @@ use Rattle.tables.specs.Rows.{Config, termsAt, linkAt}
 use Rattle.switch_verdict.specs.Verdict.{Report, report}
 use Rattle.switch.specs.Call.{State, Call, inUseBy, accountHeld, decided, called}
 use Rattle.switch.specs.History.{callAnswers}
-use Rattle.image_field.specs.Checks.{accountFields}
 use Rattle.image_read.specs.Read.{readImage}
 use Rattle.image_read.specs.declared.ImageAnswer.{ImageAnswer}
 use Rattle.image_read.specs.Bench.{accountP, imageP, answerP, answered}
 use Rattle.image_read.proofs.Bench.{image-p-reads, case-thirteen}
-use Rattle.image_fill.specs.Filling.{Runs, runsOf, accountRows, linkRows, capacities}
+use Rattle.image_fill.specs.Filling.{Runs}
 use Rattle.image_load.specs.Loading.{loading}
 use Rattle.image_load.specs.Fresh.{Fresh}
 use Rattle.image_round_trip.specs.RoundTrips.{tablesIn, loadedTables}
+use Rattle.image_round_trip.proofs.RoundTrips.{own-runs, own-fresh}
 use Rattle.replay_words.specs.Digits.{digitsOf, widthOf}
 use Rattle.replay_words.specs.Words.{wordOf}
 use Rattle.replay_text.specs.Text.{frameLine, refusedLine, headerLine, cutLine}
 use Rattle.replay_log.specs.Records.{unsettled, nextIn}
 use Rattle.replay_log.specs.declared.Entry.the-variants.{Cut, End}
-use Rattle.replay_turn.specs.Claims.{Recordable, recordsOf}
+use Rattle.replay_turn.specs.Claims.{recordsOf}
 use Rattle.replay_turn.specs.Log.{Logged, loggedOf, loggedFrom}
 use Rattle.replay_turn.specs.Text.{linesFrom, readBy, textAfter, textOf}
 use Rattle.replay_turn.proofs.Log.{log-reads-back}
@@ -48,28 +48,6 @@ use Rattle.demands.specs.Replayed.{imageState, replayText, ReplayOfRig, 
 use Rattle.demands.proofs.Bench.{runs-of, fresh-p, config-by, full}
 use Rattle.demands.proofs.Rule.{history-verdicts}
 use Rattle.demands.proofs.Words.{loaded-fresh, loaded-config}
-
--- ---- the image's own tables are fresh
-take-all : (xs : List ℕ) → take (length xs) xs ≡ xs
-take-all [] = refl
-take-all (x ∷ xs) = ap (λ (ys : List ℕ). x ∷ ys) (take-all xs)
-
-abbrev own-runs : List ℕ → Runs
-own-runs s =
-    runsOf (accountRows s (readImage s .settings .accounts))
-    (capacities (accountFields s) (readImage s .settings .accounts))
-    (replicate (readImage s .settings .accounts) 0)
-    (linkRows s (readImage s .settings .accounts) (readImage s .settings .links))
-
-own-fresh : (s : List ℕ) → readImage s .code ≡ 0 → Fresh s (own-runs s)
-own-fresh s e =
-    record {
-      accepted = e;
-      accounts = take-all (own-runs s .accounts);
-      credits = take-all (own-runs s .credits);
-      lasts = take-all (own-runs s .lasts);
-      links = take-all (own-runs s .links);
-    }
 
 -- what the calls of a log are answered does not depend on the runs
 own-answers : (s : List ℕ) (r : Runs) → loading s r .answer .code ≡ 0 → (h : List Call)
@@ -121,14 +99,17 @@ sheet-answers =
     ∙ ap (λ (q : ImageAnswer). callAnswers (config-by accountP q) full sheetCalls) e
     ∙ sheet-computed
 
-sheet-recordable : (f : Call) → List·Memᴰ f sheetCalls → Recordable f
+abbrev Fits : Call → Type 0
+Fits f = (f .time < 2 ^ 64) × (9 + length (f .octets) < 2 ^ 16)
+
+sheet-recordable : (f : Call) → List·Memᴰ f sheetCalls → Fits f
 sheet-recordable f i =
-    let two : (g : Call) → Recordable g → f ≡ g → Recordable f = λ g k e. subst Recordable (sym e) k in
-    ⊎-elim (two _ (record { time = lit< tt; octets = lit< tt }))
-    (λ i. ⊎-elim (two _ (record { time = lit< tt; octets = lit< tt }))
-    (λ i. ⊎-elim (two _ (record { time = lit< tt; octets = lit< tt }))
-    (λ i. ⊎-elim (two _ (record { time = lit< tt; octets = lit< tt }))
-    (λ i. ⊎-elim (two _ (record { time = lit< tt; octets = lit< tt }))
+    let two : (g : Call) → Fits g → f ≡ g → Fits f = λ g k e. subst Fits (sym e) k in
+    ⊎-elim (two _ (lit< tt, lit< tt))
+    (λ i. ⊎-elim (two _ (lit< tt, lit< tt))
+    (λ i. ⊎-elim (two _ (lit< tt, lit< tt))
+    (λ i. ⊎-elim (two _ (lit< tt, lit< tt))
+    (λ i. ⊎-elim (two _ (lit< tt, lit< tt))
     (λ i. absurd (List·Memᴰ·not-nil i))
     (List·Memᴰ·cases-cons i)) (List·Memᴰ·cases-cons i)) (List·Memᴰ·cases-cons i)) (List·Memᴰ·cases-cons i)) (List·Memᴰ·cases-cons i)
 

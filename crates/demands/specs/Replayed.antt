@@ -1,7 +1,7 @@
 -- What a replay prints (document 01, "The replay program" and case 14 of the bench sheet): a function of the image's octets and
 -- the log's. Proved in proofs/Replayed.antt.
 use Prim.Native.Nat.{ℕ, _^_, _<_}
-use mathlib.Core.Bool.{true}
+use mathlib.Core.Bool.{true, false}
 use mathlib.Core.List.{List, [], _∷_, _++_, List·Memᴰ}
 use mathlib.Core.Path.{_≡_}
 use lib.Dec.{eqb}
@@ -16,7 +16,7 @@ use Rattle.image_fill.specs.Filling.{Runs, capacities}
 use Rattle.image_load.specs.Loading.{loading}
 use Rattle.image_round_trip.specs.RoundTrips.{tablesIn, loadedTables}
 use Rattle.replay_text.specs.Text.{refusedLine, headerLine}
-use Rattle.replay_turn.specs.Claims.{Reading, Ended, recordsOf}
+use Rattle.replay_turn.specs.Claims.{recordsOf}
 use Rattle.replay_turn.specs.Text.{Turn, over, readBy, printed, standingAt, textOf}
 use Rattle.replay_turn.specs.Parts.{openingText}
 use Rattle.demands.specs.History.{stateIn}
@@ -38,7 +38,8 @@ replayText image log =
 abbrev pub ReplayOfRig : Type 0
 ReplayOfRig =
     (image : List ℕ) (r : Runs) → loading image r .answer .code ≡ 0
-    → (cs ds : List Turn) → ((c : Turn) → List·Memᴰ c cs → Reading c) → ((c : Turn) → List·Memᴰ c ds → Ended c)
+    → (cs ds : List Turn) → ((c : Turn) → List·Memᴰ c cs → c .whole ≡ false)
+    → ((c : Turn) → List·Memᴰ c ds → (c .piece ≡ []) × (c .whole ≡ true))
     → length (readBy cs) < 2 ^ 64
     → over (standingAt (loadedTables image r) (stateIn (loading image r .runs)) (cs ++ ds) .stop) ≡ true
     → headerLine ++ printed (loadedTables image r) (stateIn (loading image r .runs)) (cs ++ ds) ≡ replayText image (readBy cs)

@@ -373,15 +373,21 @@ module _ (s : List ℕ) (o : (i : ℕ) → getD s i 0 < 256) (z : readImage s .c
   pub image-again : imageOf g ≡ s
   image-again = image-spelled g s (ok .length-is) spelled-head spelled-account spelled-link spelled-end
 
--- tables that hold what loading writes, and nothing beyond that
-just : (s : List ℕ) → readImage s .code ≡ 0
-    → Fresh s (runsOf (accountRows s (readImage s .settings .accounts)) (capacities (accountFields s) (readImage s .settings .accounts)) (replicate (readImage s .settings .accounts) 0) (linkRows s (readImage s .settings .accounts) (readImage s .settings .links)))
-just s z = record { accepted = z; accounts = take-length _; credits = take-length _; lasts = take-length _; links = take-length _ }
+-- runs that hold what loading writes, and nothing beyond that
+abbrev pub own-runs : List ℕ → Runs
+own-runs s =
+    runsOf (accountRows s (readImage s .settings .accounts))
+    (capacities (accountFields s) (readImage s .settings .accounts))
+    (replicate (readImage s .settings .accounts) 0)
+    (linkRows s (readImage s .settings .accounts) (readImage s .settings .links))
+
+pub own-fresh : (s : List ℕ) → readImage s .code ≡ 0 → Fresh s (own-runs s)
+own-fresh s z = record { accepted = z; accounts = take-length _; credits = take-length _; lasts = take-length _; links = take-length _ }
 
 pub accepted-is-image : AcceptedIsImage
 accepted-is-image s o z =
-    let a : Accepts (tablesIn s) (length s) = read-accepts s o z _ (just s z) (length s) (omega arith) in
-    (image-again s o z _ (just s z), a .counts, values-fine (tablesIn s) (length s) a)
+    let a : Accepts (tablesIn s) (length s) = read-accepts s o z _ (own-fresh s z) (length s) (omega arith) in
+    (image-again s o z _ (own-fresh s z), a .counts, values-fine (tablesIn s) (length s) a)
 
 pub read-write : ReadWrite
 read-write s r d o z h =

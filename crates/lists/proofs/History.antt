@@ -15,6 +15,11 @@ module _ {S C A : Type 0} (m : Machine S C A) where
   answers-append [] k s = refl
   answers-append (c ∷ h) k s = ap (_∷_ (m .says s c)) (answers-append h k (m .leaves s c))
 
+  pub final-append : (h k : List C) (s : S) → final m s (h ++ k) ≡ final m (final m s h) k
+  unfolding final
+  final-append [] k s = refl
+  final-append (c ∷ h) k s = final-append h k (m .leaves s c)
+
   -- a property of every answer that a call can get is one of each answer in a list
   pub answers-each : (P : A → Type 0) → ((s : S) (c : C) → P (m .says s c))
       → (h : List C) (s : S) (a : A) → List·Memᴰ a (answers m s h) → P a

@@ -19,7 +19,7 @@ pub(crate) struct Hand {
     pub(crate) failed: bool,
 }
 
-// Prints the lines that stand at the front of the room, and returns whether that was done.
+// Prints the lines at the front of the room, and returns whether all of them were written.
 pub(crate) fn print(out: &[u8], written: usize) -> bool {
     let end = octets::least(written, out.len());
     let done = edge::write_all(STDOUT_FILENO, &out[0..end]);
@@ -103,15 +103,6 @@ fn one_turn(
     )
 }
 
-// Whether a replay is over.
-pub(crate) fn is_over(stop: Stop) -> bool {
-    match stop {
-        Stop::Finished => true,
-        Stop::CutOff => true,
-        _ => false,
-    }
-}
-
 // How a replay that is over ended.
 fn status_of(stop: Stop) -> u8 {
     match stop {
@@ -158,7 +149,7 @@ pub(crate) fn run(
             return edge::WRITE_FAILED;
         }
         let stop = progress.stop;
-        if is_over(stop) {
+        if replay_turn::is_over(stop) {
             return status_of(stop);
         }
         turns -= 1;

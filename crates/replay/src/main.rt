@@ -79,7 +79,7 @@ fn replay_image(image: &[u8]) -> u8 {
         return edge::WRITE_FAILED;
     }
     let stop = start.stop;
-    if log::is_over(stop) {
+    if replay_turn::is_over(stop) {
         return edge::IMAGE_REFUSED;
     }
     replay_log(

@@ -1,13 +1,14 @@
 -- A replay ends: each turn after the log's end leaves fewer octets at hand, or it is the last. Assumes nothing.
 use Prim.Native.Nat.{ℕ, zero, suc, _+_, _-_, _≤_, _<_}
 use mathlib.Core.Bool.{Bool, true, false, false≢true}
-use mathlib.Core.List.{List, [], _∷_, _++_, append-nil, List·Memᴰ, List·Memᴰ·head, List·Memᴰ·tail}
+use mathlib.Core.List.{List, [], _∷_, _++_, append-nil, flatMap, List·Memᴰ, List·Memᴰ·head, List·Memᴰ·tail}
 use mathlib.Core.Logic.{_⊎_, ⊎-elim, inl, inr}
 use mathlib.Core.Path.{_≡_, refl, sym, ap, _∙_, subst}
 use native.Mathlib.Omega.{arith}
 use lib.Dec.{leb}
 use lib.ListN.{length, drop, length-append, length-drop}
 use Rattle.lists.specs.History.{final}
+use Rattle.lists.proofs.History.{final-append}
 use Rattle.lists.proofs.Tests.{split}
 use Rattle.tables.specs.Rows.{Config}
 use Rattle.switch.specs.Call.{State, called}
@@ -21,9 +22,7 @@ use Rattle.replay_turn.specs.declared.Stop.{Stop}
 use Rattle.replay_turn.specs.declared.Stop.the-variants.{Octets, Room, Finished, CutOff}
 use Rattle.replay_turn.specs.Turn.{Stretch, mostFrames, stretchBy, stretch}
 use Rattle.replay_turn.specs.Text.{Standing, start, Turn, stretchOf, leftBy, over, replaying, readBy}
-use Rattle.replay_turn.specs.Claims.{Ended}
 use Rattle.replay_turn.specs.Joins.{ReplayEnds}
-use Rattle.replay_turn.proofs.Text.{final-append}
 
 module _ (g : Config) where
   -- a stretch never goes back
@@ -74,12 +73,12 @@ module _ (g : Config) where
   abbrev Less : Standing → Standing → Type 0
   Less s z = (over (z .stop) ≡ true) ⊎ (length (z .hand) < length (s .hand))
 
-  turn-ends : (s : Standing) (c : Turn) → Ended c → 0 < c .lines → (v : Stop) → s .stop ≡ v → Less s (leftBy g s c v)
-  turn-ends s c e l v q =
-      let a : s .hand ++ c .piece ≡ s .hand = ap (λ (xs : List ℕ). s .hand ++ xs) (e .nothing) ∙ append-nil (s .hand) in
+  turn-ends : (s : Standing) (c : Turn) → (c .piece ≡ []) × (c .whole ≡ true) × (0 < c .lines) → (v : Stop) → s .stop ≡ v → Less s (leftBy g s c v)
+  turn-ends s c e v q =
+      let a : s .hand ++ c .piece ≡ s .hand = ap (λ (xs : List ℕ). s .hand ++ xs) (e .0) ∙ append-nil (s .hand) in
       let f : Fewer (s .hand ++ c .piece) (stretchOf g s c) =
-      subst (λ (w : Bool). Fewer (s .hand ++ c .piece) (stretch (c .lines) g (s .hand ++ c .piece) w 0 (s .frames) (s .state))) (sym (e .ended))
-      (stretch-ends (c .lines) (s .frames) (s .hand ++ c .piece) (s .state) l) in
+      subst (λ (w : Bool). Fewer (s .hand ++ c .piece) (stretch (c .lines) g (s .hand ++ c .piece) w 0 (s .frames) (s .state))) (sym (e .1))
+      (stretch-ends (c .lines) (s .frames) (s .hand ++ c .piece) (s .state) (e .2)) in
       let m : length (s .hand ++ c .piece) ≡ length (s .hand) = ap length a in
       by-stop f m v q
     where
@@ -102,15 +101,14 @@ module _ (g : Config) where
   all-over [] s e = e
   all-over (d ∷ ds) s e = all-over ds (replaying g .leaves s d) (stays-over s d (s .stop) refl e)
 
-  all-end : (ds : List Turn) (s : Standing) → ((c : Turn) → List·Memᴰ c ds → Ended c × (0 < c .lines))
+  all-end : (ds : List Turn) (s : Standing) → ((c : Turn) → List·Memᴰ c ds → (c .piece ≡ []) × (c .whole ≡ true) × (0 < c .lines))
       → length (s .hand) < length ds → over (final (replaying g) s ds .stop) ≡ true
   unfolding final
   all-end [] s h l = absurd (omega arith)
   all-end (d ∷ ds) s h l =
-      let q = h d (List·Memᴰ·head refl) in
       ⊎-elim (λ e. all-over ds (replaying g .leaves s d) e)
       (λ e. all-end ds (replaying g .leaves s d) (λ c i. h c (List·Memᴰ·tail i)) (omega arith))
-      (turn-ends s d (q .0) (q .1) (s .stop) refl)
+      (turn-ends s d (h d (List·Memᴰ·head refl)) (s .stop) refl)
 
   -- ---- turns before it: no more is at hand than was read
   no-more : (s : Standing) (c : Turn) (v : Stop) → length (leftBy g s c v .hand) ≤ length (s .hand) + length (c .piece)
@@ -126,7 +124,7 @@ module _ (g : Config) where
       omega arith
 
   at-hand : (cs : List Turn) (s : Standing) → length (final (replaying g) s cs .hand) ≤ length (s .hand) + length (readBy cs)
-  unfolding final readBy
+  unfolding final flatMap
   at-hand [] s = omega arith
   at-hand (c ∷ cs) s =
       let a = at-hand cs (replaying g .leaves s c) in
@@ -137,5 +135,5 @@ module _ (g : Config) where
 pub replay-ends : ReplayEnds
 replay-ends g t cs ds h l =
     let a = at-hand g cs (start t) in
-    ap (λ (x : Standing). over (x .stop)) (final-append g cs ds (start t))
+    ap (λ (x : Standing). over (x .stop)) (final-append (replaying g) cs ds (start t))
     ∙ all-end g ds (final (replaying g) (start t) cs) h (omega arith)

@@ -1,7 +1,7 @@
 -- Laws of what a log holds. Assumes nothing.
-use Prim.Native.Nat.{ℕ, zero, suc, _+_, _≤_, _<_}
+use Prim.Native.Nat.{ℕ, zero, suc, _+_, _^_, _≤_, _<_}
 use mathlib.Core.Bool.{Bool, true, false}
-use mathlib.Core.List.{List, [], _∷_, _++_, append-assoc, append-nil, List·Memᴰ, List·Memᴰ·head, List·Memᴰ·tail}
+use mathlib.Core.List.{List, [], _∷_, _++_, append-assoc, append-nil, flatMap, List·Memᴰ, List·Memᴰ·head, List·Memᴰ·tail}
 use mathlib.Core.Path.{_≡_, refl, sym, ap, ap₂, _∙_}
 use native.Mathlib.Omega.{arith}
 use lib.ListN.{length, take, drop, length-append, take-append-drop}
@@ -18,7 +18,7 @@ use Rattle.replay_log.proofs.Records.{next-end}
 use Rattle.replay_log.proofs.Settled.{next-settled, next-moved, frame-inside}
 use Rattle.replay_answer.specs.Answer.{recordCall}
 use Rattle.replay_turn.specs.Log.{Logged, loggedOf, withCall, loggedBy, loggedUpTo, loggedFrom}
-use Rattle.replay_turn.specs.Claims.{EnoughRecords, Recordable, recordsOf, LogReadsBack}
+use Rattle.replay_turn.specs.Claims.{EnoughRecords, recordsOf, LogReadsBack}
 
 -- ---- how many records are looked for
 module _ (s : List ℕ) where
@@ -106,15 +106,15 @@ call-settled s u at w r e =
     ap (λ (os : List ℕ). callOf os (r .port) (r .time)) (part-front (r .size) s u (r .start) (omega arith))
 
 -- ---- a log spelled from calls
-spelled-after : (h : List Call) (tail : List ℕ) (l : Logged) → ((f : Call) → List·Memᴰ f h → Recordable f)
+spelled-after : (h : List Call) (tail : List ℕ) (l : Logged) → ((f : Call) → List·Memᴰ f h → (f .time < 2 ^ 64) × (9 + length (f .octets) < 2 ^ 16))
     → loggedFrom tail 0 ≡ l → loggedFrom (recordsOf h ++ tail) 0 ≡ loggedOf (h ++ l .calls) (l .cut)
-unfolding recordsOf
+unfolding flatMap
 spelled-after [] tail l k e = e
 spelled-after (f ∷ h) tail l k e =
     let first : List ℕ = recordOf (f .time) (f .port) (f .octets) in
     let rest : List ℕ = recordsOf h ++ tail in
-    let q : Recordable f = k f (List·Memᴰ·head refl) in
-    let back = record-reads-back [] rest (f .octets) (f .time) (f .port) true (q .time) (q .octets) in
+    let q = k f (List·Memᴰ·head refl) in
+    let back = record-reads-back [] rest (f .octets) (f .time) (f .port) true (q .0) (q .1) in
     let r : FrameRecord = frameRecord (f .time) (f .port) 12 (length (f .octets)) (12 + length (f .octets)) in
     let n : length first ≡ 12 + length (f .octets) = length-record (f .time) (f .port) (f .octets) in
     let z : 12 + length (f .octets) ≡ length first + 0 = omega arith in

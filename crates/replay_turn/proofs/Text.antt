@@ -1,7 +1,7 @@
 -- A replay, turn after turn: what is printed and what is left to print are together the text of the log. Assumes nothing.
 use Prim.Native.Nat.{ℕ, zero, suc, _+_, _-_, _^_, _≤_, _<_}
 use mathlib.Core.Bool.{Bool, true, false, false≢true}
-use mathlib.Core.List.{List, [], _∷_, _++_, append-assoc, append-nil, List·Memᴰ, List·Memᴰ·head, List·Memᴰ·tail}
+use mathlib.Core.List.{List, [], _∷_, _++_, append-assoc, append-nil, flatMap, flatten, List·Memᴰ, List·Memᴰ·head, List·Memᴰ·tail}
 use mathlib.Core.Path.{_≡_, refl, sym, ap, _∙_, subst}
 use native.Mathlib.Omega.{arith}
 use lib.Dec.{leb}
@@ -9,7 +9,7 @@ use lib.ListN.{length, getD, drop, length-append, length-drop}
 use borrow.Author.Tests.{lt-leb, leb-true, leb-false}
 use Rattle.lists.specs.Choice.{if_then_else_}
 use Rattle.lists.specs.History.{answers, final}
-use Rattle.lists.proofs.History.{answers-append}
+use Rattle.lists.proofs.History.{answers-append, final-append}
 use Rattle.lists.proofs.Tests.{split}
 use Rattle.tables.specs.Rows.{Config}
 use Rattle.switch.specs.Call.{State, Call, called}
@@ -25,8 +25,8 @@ use Rattle.replay_turn.specs.declared.Stop.{Stop}
 use Rattle.replay_turn.specs.declared.Stop.the-variants.{Octets, Room, Finished, CutOff}
 use Rattle.replay_turn.specs.Log.{Logged, loggedOf, withCall, loggedBy, loggedFrom}
 use Rattle.replay_turn.specs.Turn.{Stretch, stopped, withText, mostFrames, stretchBy, stretch}
-use Rattle.replay_turn.specs.Text.{linesFrom, textAfter, Standing, start, Turn, stretchOf, printedBy, standingAfter, leftBy, over, replaying, concatenated, readBy}
-use Rattle.replay_turn.specs.Claims.{Ended, TextOfPieces, TurnsMoveOn}
+use Rattle.replay_turn.specs.Text.{linesFrom, textAfter, Standing, start, Turn, stretchOf, printedBy, standingAfter, leftBy, over, replaying, readBy}
+use Rattle.replay_turn.specs.Claims.{TextOfPieces, TurnsMoveOn}
 use Rattle.replay_turn.proofs.Log.{logged-next, logged-dropped, entry-settled, call-settled}
 
 -- ---- the text from a frame on is its line and the text after it
@@ -263,7 +263,7 @@ module _ (g : Config) where
 
   -- ---- a list of turns
   abbrev says-all : Standing → List Turn → List ℕ
-  says-all s cs = concatenated (answers (replaying g) s cs)
+  says-all s cs = flatten (answers (replaying g) s cs)
 
   nil-right : (xs ys : List ℕ) → xs ++ ys ≡ [] → ys ≡ []
   nil-right [] ys e = e
@@ -277,7 +277,7 @@ module _ (g : Config) where
 
   pub all-turns : (cs : List Turn) (s : Standing) (u : List ℕ) → ((c : Turn) → List·Memᴰ c cs → c .whole ≡ true → readBy cs ++ u ≡ [])
       → Few s (readBy cs ++ u) → AllTurns s (final (replaying g) s cs) (readBy cs) u (says-all s cs)
-  unfolding readBy concatenated answers final
+  unfolding flatMap flatten answers final
   all-turns [] s u h k = record { text = refl; cut = refl; few = k }
   all-turns (c ∷ cs) s u h k =
       let e : c .piece ++ readBy cs ++ u ≡ c .piece ++ (readBy cs ++ u) = append-assoc (c .piece) (readBy cs) u in
@@ -294,22 +294,17 @@ module _ (g : Config) where
         few = z .few;
       }
 
-concatenated-append : (xss yss : List (List ℕ)) → concatenated (xss ++ yss) ≡ concatenated xss ++ concatenated yss
-unfolding concatenated
-concatenated-append [] yss = refl
-concatenated-append (xs ∷ xss) yss =
-    ap (λ (zs : List ℕ). xs ++ zs) (concatenated-append xss yss) ∙ sym (append-assoc xs (concatenated xss) (concatenated yss))
+flatten-append : (xss yss : List (List ℕ)) → flatten (xss ++ yss) ≡ flatten xss ++ flatten yss
+unfolding flatten
+flatten-append [] yss = refl
+flatten-append (xs ∷ xss) yss =
+    ap (λ (zs : List ℕ). xs ++ zs) (flatten-append xss yss) ∙ sym (append-assoc xs (flatten xss) (flatten yss))
 
-pub final-append : (g : Config) (cs ds : List Turn) (s : Standing) → final (replaying g) s (cs ++ ds) ≡ final (replaying g) (final (replaying g) s cs) ds
-unfolding final
-final-append g [] ds s = refl
-final-append g (c ∷ cs) ds s = final-append g cs ds (replaying g .leaves s c)
-
-nothing-read : (ds : List Turn) → ((c : Turn) → List·Memᴰ c ds → Ended c) → readBy ds ≡ []
-unfolding readBy
+nothing-read : (ds : List Turn) → ((c : Turn) → List·Memᴰ c ds → (c .piece ≡ []) × (c .whole ≡ true)) → readBy ds ≡ []
+unfolding flatMap
 nothing-read [] h = refl
 nothing-read (c ∷ ds) h =
-    ap (λ (xs : List ℕ). xs ++ readBy ds) (h c (List·Memᴰ·head refl) .nothing) ∙ nothing-read ds (λ d i. h d (List·Memᴰ·tail i))
+    ap (λ (xs : List ℕ). xs ++ readBy ds) (h c (List·Memᴰ·head refl) .0) ∙ nothing-read ds (λ d i. h d (List·Memᴰ·tail i))
 
 -- a replay that is over has nothing left to print
 over-text : (g : Config) (s : Standing) (v : Stop) → over v ≡ true → to-come g v s [] ≡ []
@@ -329,16 +324,16 @@ text-of-pieces g t cs ds reading ended small e =
     let s : Standing = final (replaying g) (start t) cs in
     let z : Standing = final (replaying g) s ds in
     let r : readBy ds ++ [] ≡ [] = append-nil (readBy ds) ∙ nothing-read ds ended in
-    let first = all-turns g cs (start t) [] (λ c i w. absurd (false≢true (sym (reading c i .going-on) ∙ w)))
+    let first = all-turns g cs (start t) [] (λ c i w. absurd (false≢true (sym (reading c i) ∙ w)))
     (subst (λ (xs : List ℕ). 0 + length xs < 2 ^ 64) (sym (append-nil (readBy cs))) (omega arith)) in
     let second = all-turns g ds s [] (λ c i w. r) (subst (λ (xs : List ℕ). s .frames + length (s .hand ++ xs) < 2 ^ 64) (sym r) (first .few)) in
-    let same : final (replaying g) (start t) (cs ++ ds) ≡ z = final-append g cs ds (start t) in
+    let same : final (replaying g) (start t) (cs ++ ds) ≡ z = final-append (replaying g) cs ds (start t) in
     let ends : over (z .stop) ≡ true = ap (λ (x : Standing). over (x .stop)) (sym same) ∙ e in
     let whole : readBy cs ++ [] ≡ readBy cs = append-nil (readBy cs) in
     record {
       text-is =
-          ap concatenated (answers-append (replaying g) cs ds (start t))
-          ∙ concatenated-append (answers (replaying g) (start t) cs) (answers (replaying g) s ds)
+          ap flatten (answers-append (replaying g) cs ds (start t))
+          ∙ flatten-append (answers (replaying g) (start t) cs) (answers (replaying g) s ds)
           ∙ ap (λ (xs : List ℕ). says-all g (start t) cs ++ xs)
           (sym (append-nil (says-all g s ds)) ∙ ap (λ (xs : List ℕ). says-all g s ds ++ xs) (sym (over-text g z (z .stop) ends))
           ∙ sym (second .text) ∙ ap (left-after g s) r)

@@ -26,20 +26,20 @@ use Rattle.replay_turn.specs.declared.Stop.{Stop}
 use Rattle.replay_turn.specs.declared.Stop.the-variants.{Octets, Room, Finished}
 use Rattle.replay_turn.specs.declared.Progress.{Progress}
 use Rattle.replay_turn.specs.Turn.{Stretch, stopped, withText, mostFrames, cutStop, stretchBy, stretch, turnedOf, progressOf, turnOf}
-use Rattle.replay_turn.specs.Parts.{Lined, linedOf, lined, openingText, openingStop, Opened, openedOf, stoppedBy, opened}
+use Rattle.replay_turn.specs.Parts.{Lined, linedOf, lined, openingText, openingStop, WithRoom, withRoom, stoppedBy, opened}
 
 -- ---- the start
 module _ (code offset n : ℕ) (d e : List ℕ) where
   begun : (text : List ℕ) (stop : Stop) → openingText code offset ≡ text → openingStop code ≡ stop → appendedOf n e ≡ appended d 0 text
-      → openedOf (progressOf 0 0 n stop) e ≡ opened code offset d
+      → withRoom (progressOf 0 0 n stop) e ≡ opened code offset d
   begun text stop p q l =
       let m : appendedOf n e ≡ appended d 0 (openingText code offset) = l ∙ ap (appended d 0) (sym p) in
-      ap₂ (λ (a : Appended) (v : Stop). openedOf (progressOf 0 0 (a .next) v) (a .room)) m (sym q)
+      ap₂ (λ (a : Appended) (v : Stop). withRoom (progressOf 0 0 (a .next) v) (a .room)) m (sym q)
 
-  pub begun-accepted : code ≡ 0 → appendedOf n e ≡ appended d 0 headerLine → openedOf (progressOf 0 0 n Octets) e ≡ opened code offset d
+  pub begun-accepted : code ≡ 0 → appendedOf n e ≡ appended d 0 headerLine → withRoom (progressOf 0 0 n Octets) e ≡ opened code offset d
   begun-accepted z = begun headerLine Octets (simp (eq-eqb code 0 z)) (simp (eq-eqb code 0 z))
 
-  pub begun-refused : (code ≡ 0 → ⊥) → appendedOf n e ≡ appended d 0 (refusedLine code offset) → openedOf (progressOf 0 0 n Finished) e ≡ opened code offset d
+  pub begun-refused : (code ≡ 0 → ⊥) → appendedOf n e ≡ appended d 0 (refusedLine code offset) → withRoom (progressOf 0 0 n Finished) e ≡ opened code offset d
   begun-refused z = begun (refusedLine code offset) Finished (simp (ne-eqb code 0 z)) (simp (ne-eqb code 0 z))
 
 -- ---- a line
@@ -57,17 +57,17 @@ line-put g t left w d e b c at next number f p q l =
 
 -- ---- what ends a turn
 module _ (d : List ℕ) (at k written : ℕ) where
-  pub stop-more : {e : Entry} → e ≡ More → openedOf (progressOf at k written Octets) d ≡ stoppedBy d at k written e
+  pub stop-more : {e : Entry} → e ≡ More → withRoom (progressOf at k written Octets) d ≡ stoppedBy d at k written e
   stop-more q = ap (stoppedBy d at k written) (sym q)
 
   pub stop-cut : {e : Entry} (n : ℕ) (c : List ℕ) → e ≡ Cut → appendedOf n c ≡ appended d written cutLine
-      → openedOf (progressOf at k n cutStop) c ≡ stoppedBy d at k written e
-  stop-cut n c q l = ap (λ (a : Appended). openedOf (progressOf at k (a .next) cutStop) (a .room)) l ∙ ap (stoppedBy d at k written) (sym q)
+      → withRoom (progressOf at k n cutStop) c ≡ stoppedBy d at k written e
+  stop-cut n c q l = ap (λ (a : Appended). withRoom (progressOf at k (a .next) cutStop) (a .room)) l ∙ ap (stoppedBy d at k written) (sym q)
 
-  pub stop-end : {e : Entry} → e ≡ End → openedOf (progressOf at k written Finished) d ≡ stoppedBy d at k written e
+  pub stop-end : {e : Entry} → e ≡ End → withRoom (progressOf at k written Finished) d ≡ stoppedBy d at k written e
   stop-end q = ap (stoppedBy d at k written) (sym q)
 
-  pub stop-frame : {e : Entry} (r : FrameRecord) → e ≡ Frame r → openedOf (progressOf at k written Finished) d ≡ stoppedBy d at k written e
+  pub stop-frame : {e : Entry} (r : FrameRecord) → e ≡ Frame r → withRoom (progressOf at k written Finished) d ≡ stoppedBy d at k written e
   stop-frame r q = ap (stoppedBy d at k written) (sym q)
 
 -- an entry with another tag than a frame's is no frame
@@ -141,8 +141,8 @@ module _ (g : Config) (s : List ℕ) (w : Bool) (d₀ : List ℕ) (at₀ k₀ : 
     along-full e = let z : left ≡ 0 = omega arith in ended-here Room (ap (λ (m : ℕ). stretch m g s w at k t) z)
 
     module _ (more : 0 < left) where
-      as-opened : (p : Progress) (c : List ℕ) (x : Opened) → openedOf p c ≡ x → Ends (x .progress) (x .room) t → Ends p c t
-      as-opened p c x o = subst (λ (x : Opened). Ends (x .progress) (x .room) t) (sym o)
+      as-stopped : (p : Progress) (c : List ℕ) (x : WithRoom) → withRoom p c ≡ x → Ends (x .progress) (x .room) t → Ends p c t
+      as-stopped p c x o = subst (λ (x : WithRoom). Ends (x .progress) (x .room) t) (sym o)
 
       one-more : left ≡ suc (left - 1)
       one-more = omega arith
@@ -154,22 +154,22 @@ module _ (g : Config) (s : List ℕ) (w : Bool) (d₀ : List ℕ) (at₀ k₀ : 
       stops e xs v q p = ap (λ (m : ℕ). stretch m g s w at k t) one-more ∙ stretch-by (left - 1) g s w at k t e q ∙ p
 
       pub along-stop : (e : Entry) (p : Progress) (c : List ℕ) → e ≡ nextIn s at w → ((r : FrameRecord) → e ≡ Frame r → ⊥)
-          → openedOf p c ≡ stoppedBy d at k written e → Ends p c t
+          → withRoom p c ≡ stoppedBy d at k written e → Ends p c t
       along-stop (Frame r) p c q n o = absurd (n r refl)
-      along-stop More p c q n o = as-opened p c _ o (ended-here Octets (stops More [] Octets (sym q) refl))
+      along-stop More p c q n o = as-stopped p c _ o (ended-here Octets (stops More [] Octets (sym q) refl))
       along-stop Cut p c q n o =
           let h = a .fits in
           let f : written + length cutLine ≤ length d₀ = omega arith in
           let m : nextOffset d written cutLine ≡ written + length cutLine = appended-next d written cutLine _ (put d written cutLine) refl (omega (arith, long)) in
-          as-opened p c _ o
+          as-stopped p c _ o
           (ended (put d written cutLine) cutLine (nextOffset d written cutLine) cutStop (stops Cut cutLine cutStop (sym q) refl) refl m f)
-      along-stop End p c q n o = as-opened p c _ o (ended-here Finished (stops End [] Finished (sym q) refl))
+      along-stop End p c q n o = as-stopped p c _ o (ended-here Finished (stops End [] Finished (sym q) refl))
 
       -- at a frame that can't be numbered
       pub along-many : (e : Entry) (r : FrameRecord) (p : Progress) (c : List ℕ) → e ≡ nextIn s at w → e ≡ Frame r → mostFrames ≤ k
-          → openedOf p c ≡ stoppedBy d at k written End → Ends p c t
+          → withRoom p c ≡ stoppedBy d at k written End → Ends p c t
       along-many e r p c q f z o =
-          as-opened p c _ o
+          as-stopped p c _ o
           (ended-here Finished (ap (λ (m : ℕ). stretch m g s w at k t) one-more ∙ stretch-many (left - 1) g s w at k t r (sym q ∙ f) z))
 
       -- at any other

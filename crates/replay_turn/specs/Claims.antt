@@ -1,7 +1,7 @@
 -- What holds of a replay whatever the log and however it is read (document 01, "The replay program"); proved in proofs/.
 use Prim.Native.Nat.{ℕ, _+_, _^_, _≤_, _<_}
 use mathlib.Core.Bool.{Bool, true, false}
-use mathlib.Core.List.{List, [], _∷_, _++_, List·Memᴰ}
+use mathlib.Core.List.{List, [], _∷_, _++_, flatMap, List·Memᴰ}
 use mathlib.Core.Path.{_≡_}
 use lib.ListN.{length, getD, take, drop}
 use Rattle.lists.specs.Choice.{if_then_else_}
@@ -23,33 +23,22 @@ abbrev pub EnoughRecords : Type 0
 EnoughRecords = (s : List ℕ) (at n : ℕ) → length s < n → loggedUpTo n s at ≡ loggedFrom s at
 
 -- the records of a list of calls, one after the other
-unfoldable pub recordsOf : List Call → List ℕ
-recordsOf [] = []
-recordsOf (f ∷ h) = recordOf (f .time) (f .port) (f .octets) ++ recordsOf h
+abbrev pub recordsOf : List Call → List ℕ
+recordsOf = flatMap (λ f. recordOf (f .time) (f .port) (f .octets))
 
--- calls whose time and frame a record can hold
-pub record Recordable (f : Call) : Type 0 where
-  pub time : f .time < 2 ^ 64
-  pub octets : 9 + length (f .octets) < 2 ^ 16
-
--- a log that is spelled from calls holds these calls, one each, and is cut where what follows the last of them is no record
+-- a log that is spelled from calls, whose times and frames fit a record, holds these calls, one each, and is cut where what
+-- follows the last of them is no record
 abbrev pub LogReadsBack : Type 0
 LogReadsBack =
-    (h : List Call) (tail : List ℕ) → ((f : Call) → List·Memᴰ f h → Recordable f)
+    (h : List Call) (tail : List ℕ)
+    → ((f : Call) → List·Memᴰ f h → (f .time < 2 ^ 64) × (9 + length (f .octets) < 2 ^ 16))
     → (nextIn tail 0 true ≡ End → loggedFrom (recordsOf h ++ tail) 0 ≡ loggedOf h false)
     × (nextIn tail 0 true ≡ Cut → loggedFrom (recordsOf h ++ tail) 0 ≡ loggedOf h true)
 
 -- ---- turns
--- turns before the log's end was seen, and turns after it, which read nothing
-pub record Reading (c : Turn) : Type 0 where
-  pub going-on : c .whole ≡ false
-
-pub record Ended (c : Turn) : Type 0 where
-  pub nothing : c .piece ≡ []
-  pub ended : c .whole ≡ true
-
--- however a log is read in pieces, and however many lines each turn has room for: once the replay is over, what was printed is
--- the text of the whole log, and it stopped as cut off exactly where the log is cut
+-- however a log is read in pieces by the turns cs, until the turns ds read nothing more, and however many lines each turn has room
+-- for: once the replay is over, what was printed is the text of the whole log, and it stopped as cut off exactly where the log
+-- is cut
 pub record TextOf (g : Config) (t : State) (log text : List ℕ) (stop : Stop) : Type 0 where
   pub text-is : text ≡ textOf g t log
   pub stop-is : stop ≡ (if loggedFrom log 0 .cut then CutOff else Finished)
@@ -57,7 +46,8 @@ pub record TextOf (g : Config) (t : State) (log text : List ℕ) (stop : Stop) :
 abbrev pub TextOfPieces : Type 0
 TextOfPieces =
     (g : Config) (t : State) (cs ds : List Turn)
-    → ((c : Turn) → List·Memᴰ c cs → Reading c) → ((c : Turn) → List·Memᴰ c ds → Ended c)
+    → ((c : Turn) → List·Memᴰ c cs → c .whole ≡ false)
+    → ((c : Turn) → List·Memᴰ c ds → (c .piece ≡ []) × (c .whole ≡ true))
     → length (readBy cs) < 2 ^ 64
     → over (standingAt g t (cs ++ ds) .stop) ≡ true
     → TextOf g t (readBy cs) (printed g t (cs ++ ds)) (standingAt g t (cs ++ ds) .stop)

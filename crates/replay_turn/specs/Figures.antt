@@ -10,7 +10,7 @@ use Rattle.replay_text.specs.Text.{refusedLine, headerLine}
 use Rattle.replay_turn.specs.declared.Stop.the-variants.{Octets, Room, Finished, CutOff}
 use Rattle.replay_turn.specs.Text.{textOf, over}
 use Rattle.replay_turn.specs.Turn.{stopped, mostFrames, stretch, progressOf}
-use Rattle.replay_turn.specs.Parts.{opened, openedOf, kept, keptOf}
+use Rattle.replay_turn.specs.Parts.{opened, withRoom, kept, keptOf}
 
 -- two records of no frame octets
 abbrev pub emptyFrames : List ℕ
@@ -42,6 +42,6 @@ abbrev pub StopFigures : Type 0
 StopFigures =
     (map over (Octets ∷ Room ∷ Finished ∷ CutOff ∷ []) ≡ false ∷ false ∷ true ∷ true ∷ [])
     × (mostFrames ≡ 18446744073709551615)
-    × (opened 0 36 (1 ∷ 2 ∷ headerLine) ≡ openedOf (progressOf 0 0 20 Octets) (headerLine ++ (116 ∷ 10 ∷ [])))
-    × (opened 20 3 (1 ∷ refusedLine 20 3) ≡ openedOf (progressOf 0 0 11 Finished) (refusedLine 20 3 ++ (10 ∷ [])))
+    × (opened 0 36 (1 ∷ 2 ∷ headerLine) ≡ withRoom (progressOf 0 0 20 Octets) (headerLine ++ (116 ∷ 10 ∷ [])))
+    × (opened 20 3 (1 ∷ refusedLine 20 3) ≡ withRoom (progressOf 0 0 11 Finished) (refusedLine 20 3 ++ (10 ∷ [])))
     × (kept (1 ∷ 2 ∷ 3 ∷ 4 ∷ 5 ∷ 6 ∷ []) 2 5 ≡ keptOf 3 (3 ∷ 4 ∷ 5 ∷ 4 ∷ 5 ∷ 6 ∷ []))

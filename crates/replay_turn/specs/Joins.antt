@@ -16,11 +16,10 @@ use Rattle.replay_turn.specs.Log.{loggedOf}
 use Rattle.replay_turn.specs.Turn.{Turned, turned}
 use Rattle.replay_turn.specs.Parts.{opened}
 use Rattle.replay_turn.specs.Text.{textAfter, Standing, standingOf, Turn, over, replaying, readBy, standingAt}
-use Rattle.replay_turn.specs.Claims.{Ended}
 
 -- a turn of the code is a call of the machine. The octets from the turn's offset on are those that were at hand and those that were
--- read; the room has a line in every 36 characters. The turn puts the machine's text at the front of the room, and what it returns
--- is where the machine stands then
+-- read; the room holds a line for each 36 characters. The turn puts the machine's text at the front of the room, and returns where
+-- the machine then stands
 pub record SameTurn (g : Config) (s : List ℕ) (x : Standing) (c : Turn) (d : List ℕ) (r : Turned) : Type 0 where
   pub text : r .room ≡ put d 0 (replaying g .says x c)
   pub written : r .progress .written ≡ length (replaying g .says x c)
@@ -36,7 +35,8 @@ TurnIsCall =
 -- a replay ends: after the log's end, more turns with room for a line than octets were read are enough, whatever the log
 abbrev pub ReplayEnds : Type 0
 ReplayEnds =
-    (g : Config) (t : State) (cs ds : List Turn) → ((c : Turn) → List·Memᴰ c ds → Ended c × (0 < c .lines))
+    (g : Config) (t : State) (cs ds : List Turn)
+    → ((c : Turn) → List·Memᴰ c ds → (c .piece ≡ []) × (c .whole ≡ true) × (0 < c .lines))
     → length (readBy cs) < length ds
     → over (standingAt g t (cs ++ ds) .stop) ≡ true
 

@@ -20,7 +20,7 @@ loggedOf h cut = record { calls = h; cut = cut }
 abbrev pub withCall : Call → Logged → Logged
 withCall f l = loggedOf (f ∷ l .calls) (l .cut)
 
--- by what stands at an offset, and what follows a record
+-- by the entry at an offset; `after` is what the log holds after a record
 abbrev pub loggedBy : (ℕ → Logged) → List ℕ → Entry → Logged
 loggedBy after s (Frame r) = withCall (recordCall s r) (after (r .next))
 loggedBy after s Cut = loggedOf [] true

@@ -18,12 +18,12 @@ use Rattle.replay_turn.specs.declared.Progress.{Progress}
 use Rattle.replay_turn.specs.Turn.{cutStop, progressOf}
 
 -- ---- progress, and what the room for lines holds
-pub record Opened : Type 0 where
+pub record WithRoom : Type 0 where
   pub progress : Progress
   pub room : List ℕ
 
-abbrev pub openedOf : Progress → List ℕ → Opened
-openedOf p d = record { progress = p; room = d }
+abbrev pub withRoom : Progress → List ℕ → WithRoom
+withRoom p d = record { progress = p; room = d }
 
 -- ---- the start: the header where an image was accepted, else the only line of the text
 abbrev pub openingText : ℕ → ℕ → List ℕ
@@ -32,9 +32,9 @@ openingText code offset = if eqb code Codes.success then headerLine else refused
 abbrev pub openingStop : ℕ → Stop
 openingStop code = if eqb code Codes.success then Octets else Finished
 
-abbrev pub opened : ℕ → ℕ → List ℕ → Opened
+abbrev pub opened : ℕ → ℕ → List ℕ → WithRoom
 opened code offset d =
-    openedOf (progressOf 0 0 (nextOffset d 0 (openingText code offset)) (openingStop code)) (put d 0 (openingText code offset))
+    withRoom (progressOf 0 0 (nextOffset d 0 (openingText code offset)) (openingStop code)) (put d 0 (openingText code offset))
 
 -- ---- in a turn: a line put into the room, and the tables after its frame
 pub record Lined : Type 0 where
@@ -48,11 +48,11 @@ abbrev pub lined : Config → State → List ℕ → ℕ → ℕ → Call → Li
 lined g t d at number f = record { appended = appended d at (lineOf number (called g t f .says)); state = called g t f .state }
 
 -- and what ends a turn at something else than a frame
-abbrev pub stoppedBy : List ℕ → ℕ → ℕ → ℕ → Entry → Opened
-stoppedBy d at k written (Frame r) = openedOf (progressOf at k written Finished) d
-stoppedBy d at k written Cut = openedOf (progressOf at k (nextOffset d written cutLine) cutStop) (put d written cutLine)
-stoppedBy d at k written More = openedOf (progressOf at k written Octets) d
-stoppedBy d at k written End = openedOf (progressOf at k written Finished) d
+abbrev pub stoppedBy : List ℕ → ℕ → ℕ → ℕ → Entry → WithRoom
+stoppedBy d at k written (Frame r) = withRoom (progressOf at k written Finished) d
+stoppedBy d at k written Cut = withRoom (progressOf at k (nextOffset d written cutLine) cutStop) (put d written cutLine)
+stoppedBy d at k written More = withRoom (progressOf at k written Octets) d
+stoppedBy d at k written End = withRoom (progressOf at k written Finished) d
 
 -- ---- between turns: the octets from `at` on, of the first `filled`, stand at the front, for more to be read after them
 pub record Kept : Type 0 where

@@ -2,7 +2,7 @@
 -- and a replay as a machine, turn after turn.
 use Prim.Native.Nat.{ℕ, suc}
 use mathlib.Core.Bool.{Bool, true, false}
-use mathlib.Core.List.{List, [], _∷_, _++_}
+use mathlib.Core.List.{List, [], _∷_, _++_, flatMap, flatten}
 use lib.ListN.{drop}
 use Rattle.lists.specs.Choice.{if_then_else_}
 use Rattle.lists.specs.History
@@ -43,7 +43,7 @@ standingOf hand k t stop = record { hand = hand; frames = k; state = t; stop = s
 abbrev pub start : State → Standing
 start t = standingOf [] 0 t Octets
 
--- a turn: the octets that were read before it, whether the log has no more, and how many lines the room holds
+-- a turn: the octets that were read before it, whether the log has no more, and for how many lines there is room
 pub record Turn : Type 0 where
   pub piece : List ℕ
   pub whole : Bool
@@ -78,18 +78,12 @@ leftBy g s c Room = standingAfter (s .hand ++ c .piece) (stretchOf g s c)
 abbrev pub replaying : Config → Machine Standing Turn (List ℕ)
 replaying g = record { says = λ s c. printedBy g s c (s .stop); leaves = λ s c. leftBy g s c (s .stop) }
 
--- runs one after the other
-unfoldable pub concatenated : List (List ℕ) → List ℕ
-concatenated [] = []
-concatenated (xs ∷ xss) = xs ++ concatenated xss
-
 -- the octets that the turns of a list read, and all that they print
-unfoldable pub readBy : List Turn → List ℕ
-readBy [] = []
-readBy (c ∷ cs) = c .piece ++ readBy cs
+abbrev pub readBy : List Turn → List ℕ
+readBy = flatMap (λ c. c .piece)
 
 abbrev pub printed : Config → State → List Turn → List ℕ
-printed g t cs = concatenated (History.answers (replaying g) (start t) cs)
+printed g t cs = flatten (History.answers (replaying g) (start t) cs)
 
 abbrev pub standingAt : Config → State → List Turn → Standing
 standingAt g t cs = History.final (replaying g) (start t) cs

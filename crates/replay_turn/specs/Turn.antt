@@ -33,7 +33,7 @@ stopped text at k t stop = record { text = text; at = at; frames = k; state = t;
 abbrev pub withText : List ℕ → Stretch → Stretch
 withText xs a = record { text = xs ++ a .text; at = a .at; frames = a .frames; state = a .state; stop = a .stop }
 
--- the number of a line has 64 bits; a frame more than these would end the replay
+-- the greatest number of a line, in 64 bits; a further frame would end the replay
 abbrev pub mostFrames : ℕ
 mostFrames = 2 ^ 64 - 1
 
@@ -41,7 +41,7 @@ mostFrames = 2 ^ 64 - 1
 abbrev pub cutStop : Stop
 cutStop = CutOff
 
--- by what stands at an offset after k frames, and what follows a frame
+-- a stretch by the entry at its offset, after k frames; `after` is the stretch that follows a frame
 abbrev pub stretchBy : (ℕ → State → Stretch) → Config → List ℕ → ℕ → ℕ → State → Entry → Stretch
 stretchBy after g s at k t (Frame r) =
     if leb mostFrames k then stopped [] at k t Finished

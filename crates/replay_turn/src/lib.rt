@@ -7,8 +7,9 @@ ghost use Rattle.tables.specs.Rows.{configFor};
 ghost use Rattle.switch.specs.Call.{stateOf, called};
 ghost use Rattle.replay_text.specs.Text.{lineOf, longestLine};
 ghost use Rattle.replay_answer.specs.Answer.{recordCall};
+ghost use Rattle.replay_turn.specs.Text.{over};
 ghost use Rattle.replay_turn.specs.Turn.{turnedOf, turned};
-ghost use Rattle.replay_turn.specs.Parts.{openedOf, opened, keptOf, kept, linedOf, lined, stoppedBy};
+ghost use Rattle.replay_turn.specs.Parts.{withRoom, opened, keptOf, kept, linedOf, lined, stoppedBy};
 use replay_log::Entry;
 use replay_log::FrameRecord;
 use tables::Settings;
@@ -25,6 +26,18 @@ pub enum Stop {
     CutOff,
 }
 
+// Whether a replay is over.
+pub fn is_over(stop: Stop) -> bool
+    ensures { λ r. ⌜ r ≡ over stop ⌝ }
+{
+    match stop {
+        Stop::Octets => false,
+        Stop::Room => false,
+        Stop::Finished => true,
+        Stop::CutOff => true,
+    }
+}
+
 // Where a replay stands: its offset in the octets at hand, the frames answered, the characters put into the room, why it stops.
 pub struct Progress {
     pub at: usize,
@@ -35,7 +48,7 @@ pub struct Progress {
 
 // Begins a replay with what loading the image answered: puts the header, or the only line of a refused image.
 pub fn begin(code: u8, offset: usize, out: &mut [u8]) -> Progress
-    ensures { λ r. ⌜ openedOf r (now (out .exit)) ≡ opened code offset (now (out .entry)) ⌝ }
+    ensures { λ r. ⌜ withRoom r (now (out .exit)) ≡ opened code offset (now (out .entry)) ⌝ }
 {
     if code == codes::SUCCESS {
         return Progress {
@@ -105,7 +118,7 @@ fn put_answer(
 
 // Ends a turn at what is no frame: more octets are to be read, or the replay is over, with the last line of a log that is cut.
 fn end_turn(entry: Entry, at: usize, frames: u64, written: usize, out: &mut [u8]) -> Progress
-    ensures { λ r. ⌜ openedOf r (now (out .exit)) ≡ stoppedBy (now (out .entry)) at frames written entry ⌝ }
+    ensures { λ r. ⌜ withRoom r (now (out .exit)) ≡ stoppedBy (now (out .entry)) at frames written entry ⌝ }
 {
     match entry {
         Entry::More => Progress {

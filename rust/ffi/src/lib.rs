@@ -124,25 +124,7 @@ pub fn top_up(t: &Terms, credit: &mut u32, last: &mut u64, time: u64) {
 }
 
 pub fn police(t: &Terms, credit: &mut u32, last: &mut u64, octets: usize, time: u64) -> StepAnswer {
-    let mut reported = 0;
-    // SAFETY: exclusive references, and an output of its own.
-    let code = unsafe {
-        raw::ashthulgo_police(
-            t.smax,
-            t.k,
-            t.jitter,
-            t.mode,
-            credit,
-            last,
-            octets,
-            time,
-            &mut reported,
-        )
-    };
-    StepAnswer {
-        code,
-        credit: reported,
-    }
+    step(raw::ashthulgo_police, t, credit, last, octets, time)
 }
 
 /// The same by way of an account that is changed in place.
@@ -153,10 +135,29 @@ pub fn police_in_place(
     octets: usize,
     time: u64,
 ) -> StepAnswer {
+    step(
+        raw::ashthulgo_police_in_place,
+        t,
+        credit,
+        last,
+        octets,
+        time,
+    )
+}
+
+/// One of the two policing steps.
+fn step(
+    call: raw::Step,
+    t: &Terms,
+    credit: &mut u32,
+    last: &mut u64,
+    octets: usize,
+    time: u64,
+) -> StepAnswer {
     let mut reported = 0;
     // SAFETY: exclusive references, and an output of its own.
     let code = unsafe {
-        raw::ashthulgo_police_in_place(
+        call(
             t.smax,
             t.k,
             t.jitter,

@@ -1,5 +1,9 @@
 //! The functions of `include/ashthulgo.h`.
 
+/// The form of both policing steps.
+pub type Step =
+    unsafe extern "C" fn(u16, u8, u16, u8, *mut u32, *mut u64, usize, u64, *mut u32) -> u8;
+
 extern "C" {
     pub fn ashthulgo_read_frame(
         frame: *const u8,

@@ -227,6 +227,37 @@ pub fn frame_call(links: usize, visit: &mut dyn FnMut(Case)) {
     }
 }
 
+/// The rows of a plan, as a call is lent them.
+struct Lent {
+    constant: u32,
+    accounts: Vec<u8>,
+    account_count: usize,
+    links: Vec<u8>,
+    link_count: usize,
+}
+
+impl Lent {
+    fn of(plan: &Plan) -> Self {
+        Lent {
+            constant: plan.constant,
+            accounts: plan.account_rows(),
+            account_count: plan.accounts.len(),
+            links: plan.link_rows(),
+            link_count: plan.links.len(),
+        }
+    }
+
+    fn tables(&self) -> ffi::Tables<'_> {
+        ffi::Tables {
+            constant: self.constant,
+            accounts: &self.accounts,
+            account_count: self.account_count,
+            links: &self.links,
+            link_count: self.link_count,
+        }
+    }
+}
+
 fn frame(
     plan: &Plan,
     row: usize,
@@ -239,24 +270,16 @@ fn frame(
     let number = 100 + 3 * row as u16;
     let port = (row % 32) as u32 + other_port;
     let frame = plan.frame(number, octets, &[0x55]);
-    let (accounts, links) = (plan.account_rows(), plan.link_rows());
-    let (constant, account_count, link_count) =
-        (plan.constant, plan.accounts.len(), plan.links.len());
-    let mut credits = vec![credit; account_count];
-    let mut lasts = vec![last; account_count];
+    let lent = Lent::of(plan);
+    let link_count = plan.links.len();
+    let mut credits = vec![credit; plan.accounts.len()];
+    let mut lasts = vec![last; plan.accounts.len()];
     let mode = plan.accounts[0].mode;
     let about = format!(
         "row {row} of {link_count}, {octets} octets at {time} after {last}, mode {mode}, credit {credit}"
     );
     case(about, move || {
-        let tables = ffi::Tables {
-            constant,
-            accounts: &accounts,
-            account_count,
-            links: &links,
-            link_count,
-        };
-        ffi::frame_call(&frame, port, time, &tables, &mut credits, &mut lasts);
+        ffi::frame_call(&frame, port, time, &lent.tables(), &mut credits, &mut lasts);
     })
 }
 
@@ -419,18 +442,10 @@ fn write(visit: &mut dyn FnMut(Case)) {
 }
 
 fn written(about: String, plan: &Plan, room: usize) -> Case {
-    let (constant, accounts, links) = (plan.constant, plan.account_rows(), plan.link_rows());
-    let (account_count, link_count) = (plan.accounts.len(), plan.links.len());
+    let lent = Lent::of(plan);
     let mut room = vec![0xEE; room];
     case(about, move || {
-        let tables = ffi::Tables {
-            constant,
-            accounts: &accounts,
-            account_count,
-            links: &links,
-            link_count,
-        };
-        ffi::write(&tables, &mut room);
+        ffi::write(&lent.tables(), &mut room);
     })
 }
 

@@ -4,9 +4,9 @@
 use std::fs;
 use std::os::unix::fs::{symlink, PermissionsExt};
 use std::path::Path;
-use std::process::{Command, Stdio};
+use std::process::Command;
 
-use super::runs::root;
+use super::runs::{finish, root};
 use super::*;
 
 /// A program that is a script.
@@ -44,19 +44,16 @@ fn launch(root: &Path, words: &[&Path], check: u8, out: Out) -> (Vec<u8>, String
         &format!("[ \"$1\" = check ] && exit {check}; PATH=$EDGE_PATH exec rt \"$@\""),
     );
     let (redirected, stdout) = out.given();
-    let ran = Command::new("sh")
-        .arg("-c")
-        .arg(format!("exec \"$0\" \"$@\" {redirected}"))
-        .arg(root.join("replay"))
-        .args(words)
-        .env("PATH", format!("{}:{path}", tools.0.display()))
-        .env("EDGE_PATH", path)
-        .stdin(Stdio::null())
-        .stdout(stdout)
-        .stderr(Stdio::piped())
-        .spawn()
-        .and_then(|child| child.wait_with_output())
-        .expect("a shell");
+    let ran = finish(
+        Command::new("sh")
+            .arg("-c")
+            .arg(format!("exec \"$0\" \"$@\" {redirected}"))
+            .arg(root.join("replay"))
+            .args(words)
+            .env("PATH", format!("{}:{path}", tools.0.display()))
+            .env("EDGE_PATH", path),
+        stdout,
+    );
     let status = ran.status.code().expect("an exit status");
     (
         ran.stdout,

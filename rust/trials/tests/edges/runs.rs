@@ -3,7 +3,7 @@
 use std::fs;
 use std::io;
 use std::path::{Path, PathBuf};
-use std::process::{Command, Stdio};
+use std::process::{Command, Output, Stdio};
 use std::sync::OnceLock;
 
 use super::words::{EBADF, ENOSPC, EPIPE};
@@ -170,22 +170,19 @@ pub fn run_with(
     );
     let report = folder.0.join("report");
     let _ = fs::remove_file(&report);
-    let ran = Command::new("sh")
-        .arg("-c")
-        .arg(script)
-        .arg(program())
-        .arg(shim())
-        .current_dir(&folder.0)
-        .env("EDGE_REPORT", report)
-        .env("EDGE_READ_FILE", file)
-        .envs(settings("READ", reads))
-        .envs(settings("WRITE", writes))
-        .stdin(Stdio::null())
-        .stdout(stdout)
-        .stderr(Stdio::piped())
-        .spawn()
-        .and_then(|child| child.wait_with_output())
-        .expect("a shell");
+    let ran = finish(
+        Command::new("sh")
+            .arg("-c")
+            .arg(script)
+            .arg(program())
+            .arg(shim())
+            .current_dir(&folder.0)
+            .env("EDGE_REPORT", report)
+            .env("EDGE_READ_FILE", file)
+            .envs(settings("READ", reads))
+            .envs(settings("WRITE", writes)),
+        stdout,
+    );
     assert!(ran.status.success(), "{}", ran.status);
     Ran {
         text: ran.stdout,
@@ -203,4 +200,15 @@ pub fn run(folder: &Folder, reads: (&str, &[Does]), writes: &[Does], out: Out) -
 /// Runs the program with no call changed.
 pub fn run_plain(folder: &Folder) -> Ran {
     run(folder, ("", &[]), &[], Out::Taken)
+}
+
+/// Runs a shell to its end, with nothing to read and this standard output; its standard error is kept.
+pub fn finish(command: &mut Command, stdout: Stdio) -> Output {
+    command
+        .stdin(Stdio::null())
+        .stdout(stdout)
+        .stderr(Stdio::piped())
+        .spawn()
+        .and_then(|child| child.wait_with_output())
+        .expect("a shell")
 }
