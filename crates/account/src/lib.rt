@@ -1,6 +1,8 @@
 // A bandwidth account and its policing step (ARINC 664P7 traffic policing). Credit is counted in octets times the
 // microseconds of the BAG, so no sum is ever rounded. Accounts are taken and given by value; `police_in_place` alone
 // changes an account that is lent.
+#![tactic(auto)]
+
 ghost use Rattle.std.specs.Prelude.{◌≡◌, ◌+◌, ◌*◌, ◌≤◌, min};
 ghost use Rattle.account.specs.Account.{holding, credit_up_to, capacity_of, cost_of, measured, topped_up, debited};
 ghost use Rattle.account.specs.Step.{stepped, stepped_of, judged_at, policed};

@@ -1,5 +1,7 @@
 // The policing step on an account that this crate owns: the account is held in a local and lent to `police_in_place`. A
 // caller has plain values and needs no reference to an account.
+#![tactic(auto)]
+
 ghost use Rattle.std.specs.Prelude.{◌≡◌};
 ghost use Rattle.account.specs.Step.{stepped_of, policed};
 

@@ -1,6 +1,8 @@
 // Runs the worked cases of the scripts in `data`, one script a section, and prints each line with the answer to that
 // line, for comparison with the file `stdout`. Each section starts with nothing set; the section's module says what its
 // lines are. Of a script longer than 65,536 octets the rest is not read.
+#![tactic(auto)]
+
 mod calls;
 mod frames;
 mod images;

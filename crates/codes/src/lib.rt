@@ -1,4 +1,5 @@
 // The codes of every call, as the papers number them. All other crates name the codes.
+#![tactic(auto)]
 
 // Frame calls, policing steps and frame reading (document 01, "Codes, in order of checking"), and 0 of every call.
 

@@ -79,12 +79,12 @@ pub extern "C" fn ashthulgo_reader_load(
     account_count: &mut usize,
     link_count: &mut usize,
 ) -> u8
-    ensures links_after { loading_of
+    ensures loaded { loading_of
         (loaded_with result offset.new constant.new account_count.new link_count.new)
         (runs_of accounts.new credits.new lasts.new links.new)
         ≡ loading image.now
         (runs_of accounts.old credits.old lasts.old links.old) }
-    ensures place_after { place.new ≡ offset.new }
+    ensures place { place.new ≡ offset.new }
 {
     let reading = image_reader_lent::load_from(image, *place, accounts, credits, lasts, links);
     *place = reading.at;

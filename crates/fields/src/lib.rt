@@ -1,5 +1,7 @@
 // Tagged fields: one octet tag, two octets length, then the data. The configuration image and a log are made of such
 // fields. Every function is total: an octet past the end reads as 0.
+#![tactic(auto)]
+
 ghost use Rattle.std.specs.Prelude.{◌≡◌};
 ghost use Rattle.fields.specs.Fields.{field_at, stands_at};
 

@@ -1,5 +1,7 @@
 // The filter of a frame: the codes that are checked before a link's account is looked at, and the link itself. Every
 // function is total.
+#![tactic(auto)]
+
 ghost use Rattle.std.specs.Prelude.{◌≡◌};
 ghost use Rattle.filter.specs.Filter.{frame_code, port_code, routed};
 

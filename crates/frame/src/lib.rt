@@ -1,5 +1,7 @@
 // Reading an AFDX frame: its code by length, constant field, virtual link number, sequence number and payload.
 // The frame check sequence is part of the frame and is not judged.
+#![tactic(auto)]
+
 ghost use Rattle.std.specs.Prelude.{◌≡◌, eqb};
 ghost use Rattle.frame.specs.Frame.{length_code, constant_field, link_number, header_of, payload_of, payload_place};
 
@@ -80,8 +82,8 @@ pub fn head(frame: &[u8]) -> Header
 
 // The payload as a part of the frame lent; a refused frame has the empty part at its start.
 pub fn payload(frame: &[u8]) -> &[u8]
-    ensures result_value { result.now ≡ payload_of frame.now }
-    ensures ref_ptr_value { result.ref_ptr ≡ payload_place frame.entry.ref_ptr frame.now }
+    ensures contents { result.now ≡ payload_of frame.now }
+    ensures place { result.ref_ptr ≡ payload_place frame.entry.ref_ptr frame.now }
 {
     let n = frame.len();
     if length_code(n) != codes::SUCCESS {

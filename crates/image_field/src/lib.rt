@@ -1,5 +1,7 @@
 // The checks of one field of an image: the code of the head, and that of the field after so many accounts and links. Every
 // function is total.
+#![tactic(auto)]
+
 ghost use Rattle.std.specs.Prelude.{◌≡◌};
 ghost use Rattle.image_field.specs.Checks.{field_code, head_good, head_code, in_order, data_octets, is_full, values_good, next_code};
 

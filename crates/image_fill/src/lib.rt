@@ -1,4 +1,6 @@
 // Filling the lent runs from an image. A run that is too short is left as it is. Every function is total.
+#![tactic(auto)]
+
 ghost use Rattle.std.specs.Prelude.{◌≡◌, replicate};
 ghost use Rattle.octets.specs.Runs.{joined, put};
 ghost use Rattle.terms.specs.Terms.{checked_capacity};

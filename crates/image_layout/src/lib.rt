@@ -1,4 +1,6 @@
 // The layout of a configuration image: tags, sizes, limits, and where a field stands.
+#![tactic(auto)]
+
 ghost use Rattle.std.specs.Prelude.{◌≡◌};
 ghost use Rattle.image_layout.specs.Layout.{account_size, link_size, field_offset, data_offset, image_prefix, constant_good};
 ghost use Rattle.rows.specs.Rows.{spacing};

@@ -1,4 +1,6 @@
 // Loading a configuration image into lent tables. Every function is total.
+#![tactic(auto)]
+
 ghost use Rattle.std.specs.Prelude.{◌≡◌};
 ghost use Rattle.image_load.specs.Loading.{runs_hold, load_answer, loading_of, loading};
 ghost use Rattle.image_fill.specs.Filling.{runs_of};

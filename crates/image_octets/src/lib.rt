@@ -1,4 +1,6 @@
 // Writing an image's octets into lent room. What has no room is not written at all.
+#![tactic(auto)]
+
 ghost use Rattle.std.specs.Prelude.{◌∷◌, ◌≡◌};
 ghost use Rattle.octets.specs.Numbers.{octets_of};
 ghost use Rattle.octets.specs.Runs.{octets_at, joined, put};

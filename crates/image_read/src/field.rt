@@ -45,8 +45,8 @@ fn smax_of(image: &[u8], account: u16) -> u16
 
 // Whether the field after so many accounts and j links is a link that passes every check.
 pub(crate) fn good_link(image: &[u8], accounts: u16, j: u16) -> bool
-    requires fact_1 { 1 ≤ accounts }
-    requires fact_2 { j < max_links }
+    requires some_account { 1 ≤ accounts }
+    requires link_allowed { j < max_links }
     ensures { result ≡ good_field image.now link_tag accounts j }
 {
     let at = image_layout::field_offset(accounts, j);

@@ -1,4 +1,6 @@
 // Reading a configuration image: what any octets are answered when they are read as an image.
+#![tactic(auto)]
+
 ghost use Rattle.std.specs.Prelude.{◌≡◌};
 ghost use Rattle.image_read.specs.Read.{image_refused, read_image};
 

@@ -1,4 +1,6 @@
 // A reader: an image and a place in the image. These functions are proved by hand.
+#![tactic(auto)]
+
 ghost use Rattle.std.specs.Prelude.{◌≡◌};
 ghost use Rattle.image_load.specs.Loading.{loading_of, loading};
 ghost use Rattle.image_fill.specs.Filling.{runs_of};
@@ -33,10 +35,10 @@ pub fn load<'s, 'a>(
     lasts: &mut [u64],
     links: &mut [u8],
 ) -> ImageAnswer
-    ensures links_after { loading_of result (runs_of accounts.new credits.new lasts.new links.new)
+    ensures loaded { loading_of result (runs_of accounts.new credits.new lasts.new links.new)
         ≡ loading r.old.image.now
         (runs_of accounts.old credits.old lasts.old links.old) }
-    ensures image_unchanged { (r.new.image ≡ r.old.image) × (r.new.at ≡ result.offset) }
+    ensures reader { (r.new.image ≡ r.old.image) × (r.new.at ≡ result.offset) }
 {
     let answer = image_load::load(r.image, accounts, credits, lasts, links);
     r.at = answer.offset;

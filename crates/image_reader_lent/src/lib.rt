@@ -1,5 +1,7 @@
 // A reader that this crate owns: the reader is held in a local, lent to `image_reader::load`, and asked for its place.
 // A caller has a plain slice and a number and needs no reader.
+#![tactic(auto)]
+
 ghost use Rattle.std.specs.Prelude.{◌≡◌};
 ghost use Rattle.image_load.specs.Loading.{loading_of, loading};
 ghost use Rattle.image_fill.specs.Filling.{runs_of};
@@ -22,11 +24,11 @@ pub fn load_from(
     lasts: &mut [u64],
     links: &mut [u8],
 ) -> Reading
-    ensures links_after { loading_of result.answer
+    ensures loaded { loading_of result.answer
         (runs_of accounts.new credits.new lasts.new links.new)
         ≡ loading image.now
         (runs_of accounts.old credits.old lasts.old links.old) }
-    ensures at_value { result.at ≡ result.answer.offset }
+    ensures place { result.at ≡ result.answer.offset }
 {
     let mut r = image_reader::new(image);
     r.at = place;

@@ -1,4 +1,6 @@
 // Writing a configuration image from a constant field and the first rows of two tables.
+#![tactic(auto)]
+
 ghost use Rattle.std.specs.Prelude.{◌≡◌};
 ghost use Rattle.tables.specs.Rows.{config_of};
 ghost use Rattle.image_write.specs.Writing.{count_good, counts_good, write_answer, writing_of, writing};

@@ -1,5 +1,7 @@
 // Octets and the numbers that octets spell, the high octet first: numbers of 2, 4 and 8 octets read, the lesser of two
 // counts, and whether a run has room for another. Every function is total: an octet past the end reads as 0.
+#![tactic(auto)]
+
 ghost use Rattle.std.specs.Prelude.{◌≡◌, ◌+◌, ◌≤◌, ◌<◌, min, length, get_or, leb};
 ghost use Rattle.octets.specs.Numbers.{number_at};
 

@@ -1,5 +1,7 @@
 // Writing octets into lent runs: numbers of 2, 4 and 8 octets, the high octet first, and a part of one run copied into
 // another run. Every function is total: what has no room is not written at all.
+#![tactic(auto)]
+
 ghost use Rattle.std.specs.Prelude.{◌≡◌, ◌+◌, ◌≤◌, length};
 ghost use Rattle.octets.specs.Numbers.{octets_of};
 ghost use Rattle.octets.specs.Runs.{octets_at, put};
@@ -39,8 +41,8 @@ pub fn put_u64(to: &mut [u8], at: usize, x: u64)
 
 // Copies octets that are all inside the run to an offset with room for them, with no test for each octet.
 fn copy_whole(from: &[u8], at: usize, size: usize, to: &mut [u8], offset: usize)
-    requires fact_1 { at + size ≤ length from.now }
-    requires fact_2 { offset + size ≤ length to.old }
+    requires from_inside { at + size ≤ length from.now }
+    requires to_inside { offset + size ≤ length to.old }
     ensures { to.new ≡ put to.old offset (octets_at size from.now at) }
 {
     let mut i = 0;

@@ -1,5 +1,7 @@
 // The receiving end of a link on two networks: integrity by sequence number on each network, then the first of two
 // copies delivered. Links are lent as rows, and what is remembered of each link as a memory. The call is total.
+#![tactic(auto)]
+
 ghost use Rattle.std.specs.Prelude.{◌≡◌, ◌+◌, ◌*◌, ◌≤◌, length};
 ghost use Rattle.receive.specs.Lent.{memory_words};
 ghost use Rattle.receive_answer.specs.Answer.{other};

@@ -35,16 +35,16 @@ pub(crate) fn awaiting_word(network: Network, number: u8) -> usize
 }
 
 pub(crate) fn word(memory: &[u64], row: usize, at: usize) -> u64
-    requires fact_1 { memory_words * row + memory_words ≤ length memory.now }
-    requires fact_2 { at < memory_words }
+    requires row_inside { memory_words * row + memory_words ≤ length memory.now }
+    requires word_inside { at < memory_words }
     ensures { result ≡ word memory.now row at }
 {
     memory[MEMORY_WORDS * row + at]
 }
 
 fn store(memory: &mut [u64], row: usize, at: usize, value: u64)
-    requires fact_1 { memory_words * row + memory_words ≤ length memory.old }
-    requires fact_2 { at < memory_words }
+    requires row_inside { memory_words * row + memory_words ≤ length memory.old }
+    requires word_inside { at < memory_words }
     ensures { memory.new ≡ store memory.old row at value }
 {
     memory[MEMORY_WORDS * row + at] = value;

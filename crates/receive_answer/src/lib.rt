@@ -1,5 +1,7 @@
 // The answers of a receiving end: integrity by sequence number, then the first of two copies delivered. What a link
 // remembers is passed in words. Every function is total.
+#![tactic(auto)]
+
 ghost use Rattle.std.specs.Prelude.{◌≡◌};
 ghost use Rattle.receive_sequence.specs.Sequence.{number_of};
 ghost use Rattle.receive_answer.specs.Answer.{other, delivery_of, reception_code, taken, in_skew, reception_by};

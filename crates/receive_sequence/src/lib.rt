@@ -1,5 +1,7 @@
 // Sequence numbers of frames: which number follows a number, and whether a number passes after the last. Every function
 // is total.
+#![tactic(auto)]
+
 ghost use Rattle.std.specs.Prelude.{◌≡◌};
 ghost use Rattle.receive_sequence.specs.Sequence.{next, passes, number_of};
 

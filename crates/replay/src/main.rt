@@ -1,4 +1,6 @@
 // Replays the rig in the current folder: loads `rig.cfg` and answers the frames of `rig.frames`, one line each.
+#![tactic(auto)]
+
 mod edge;
 mod log;
 

@@ -1,4 +1,6 @@
 // The answer to a recorded frame, by way of a frame buffer.
+#![tactic(auto)]
+
 ghost use Rattle.std.specs.Prelude.{◌≡◌, ◌≤◌, length, take};
 ghost use Rattle.switch_verdict.specs.Verdict.{reported};
 ghost use Rattle.switch.specs.Call.{state_of, call_of, after_of, called};

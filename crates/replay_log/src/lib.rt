@@ -1,4 +1,6 @@
 // The log of frames of a rig, record by record: tag 16, two octets of length, eight of time, one of the port, and the frame.
+#![tactic(auto)]
+
 ghost use Rattle.std.specs.Prelude.{◌≡◌};
 ghost use Rattle.replay_log.specs.Records.{longest_record, next_in, record_at, unsettled};
 ghost use Rattle.fields.specs.Fields.{field_at};

@@ -1,5 +1,7 @@
 // The lines of a replay. Each function writes a line at an offset of the lent room and returns the offset after the line; a line
 // that doesn't fit whole is not written, and the offset itself is returned. Every function is total.
+#![tactic(auto)]
+
 ghost use Rattle.std.specs.Prelude.{◌≤◌, ◌≡◌, length};
 ghost use Rattle.switch_verdict.specs.Verdict.{reported};
 ghost use Rattle.replay_text.specs.Text.{frame_line, line_of, refused_line, header_line, cut_line, longest_line};
@@ -24,8 +26,8 @@ pub fn longest_line() -> usize
 
 // The line of a frame whose answer carries a credit.
 fn put_credit_line(out: &mut [u8], at: usize, number: u64, code: u8, credit: u32) -> usize
-    ensures out_after { appended_of result out.new ≡ appended out.old at (frame_line number code (some credit)) }
-    ensures credit_len_bound { length (frame_line number code (some credit)) ≤ longest_line }
+    ensures put { appended_of result out.new ≡ appended out.old at (frame_line number code (some credit)) }
+    ensures fits { length (frame_line number code (some credit)) ≤ longest_line }
 {
     let mut line = [0u8; LONGEST_LINE];
     let a = replay_words::put_word(&mut line, 0, number, SPACE);
@@ -36,8 +38,8 @@ fn put_credit_line(out: &mut [u8], at: usize, number: u64, code: u8, credit: u32
 
 // The line of a frame whose answer is only its code.
 fn put_code_line(out: &mut [u8], at: usize, number: u64, code: u8) -> usize
-    ensures out_after { appended_of result out.new ≡ appended out.old at (frame_line number code none) }
-    ensures none_len_bound { length (frame_line number code none) ≤ longest_line }
+    ensures put { appended_of result out.new ≡ appended out.old at (frame_line number code none) }
+    ensures fits { length (frame_line number code none) ≤ longest_line }
 {
     let mut line = [0u8; LONGEST_LINE];
     let a = replay_words::put_word(&mut line, 0, number, SPACE);
@@ -48,8 +50,8 @@ fn put_code_line(out: &mut [u8], at: usize, number: u64, code: u8) -> usize
 
 // The line of a frame: its number, the code of its answer, and the credit of that answer. No such line is longer than the longest.
 pub fn put_line(out: &mut [u8], at: usize, number: u64, verdict: Verdict) -> usize
-    ensures out_after { appended_of result out.new ≡ appended out.old at (line_of number (reported verdict)) }
-    ensures verdict_len_bound { length (line_of number (reported verdict)) ≤ longest_line }
+    ensures put { appended_of result out.new ≡ appended out.old at (line_of number (reported verdict)) }
+    ensures fits { length (line_of number (reported verdict)) ≤ longest_line }
 {
     match verdict {
         Verdict::Forwarded { mask: _, credit } => put_credit_line(

@@ -1,5 +1,7 @@
 // Turns of a replay: the records at hand are answered, and each answer is put as a line into lent room. The program reads octets
 // before a turn and writes lines after it. Every function is total.
+#![tactic(auto)]
+
 ghost use Rattle.std.specs.Prelude.{◌≡◌, ◌≤◌, length};
 ghost use Rattle.tables.specs.Rows.{config_for};
 ghost use Rattle.switch.specs.Call.{state_of, called};
@@ -90,7 +92,7 @@ fn put_answer(
     lasts: &mut [u64],
     links: &[u8],
 ) -> usize
-    ensures lasts_after { lined_of result out.new (state_of credits.new lasts.new)
+    ensures put { lined_of result out.new (state_of credits.new lasts.new)
         ≡ lined
         (config_for settings accounts.now links.now)
         (state_of credits.old lasts.old)
@@ -98,7 +100,7 @@ fn put_answer(
         at
         number
         (record_call log.now logged) }
-    ensures logged_len_bound { length (line_of number (called
+    ensures fits { length (line_of number (called
         (config_for settings accounts.now links.now)
         (state_of credits.old lasts.old)
         (record_call log.now logged)).says) ≤ longest_line }
@@ -155,7 +157,7 @@ pub fn turn(
     lasts: &mut [u64],
     links: &[u8],
 ) -> Progress
-    ensures lasts_after { turned_of result out.new (state_of credits.new lasts.new)
+    ensures turned { turned_of result out.new (state_of credits.new lasts.new)
         ≡ turned
         (config_for settings accounts.now links.now)
         log.now
@@ -163,7 +165,7 @@ pub fn turn(
         from
         out.old
         (state_of credits.old lasts.old) }
-    ensures written_in_bounds { result.written ≤ length out.new }
+    ensures written_inside { result.written ≤ length out.new }
 {
     let mut buffer = [0u8; frame::LARGEST_FRAME];
     let mut left = out.len() / replay_text::LONGEST_LINE;

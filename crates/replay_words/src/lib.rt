@@ -1,5 +1,7 @@
 // The words of a text. Each function appends a word at an offset of the lent room and returns the next offset; a word that doesn't
 // fit whole is not written, and the offset itself is returned. Every function is total.
+#![tactic(auto)]
+
 ghost use Rattle.std.specs.Prelude.{◌≡◌};
 ghost use Rattle.octets.specs.Runs.{octets_at};
 ghost use Rattle.replay_words.specs.Words.{word_of, appended, appended_of};

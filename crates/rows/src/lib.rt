@@ -1,5 +1,7 @@
 // Rows at equal distances in a run of octets, each beginning with a number of two octets: where a row stands, and the
 // first row in use that has a number. Every function is total.
+#![tactic(auto)]
+
 ghost use Rattle.std.specs.Prelude.{◌≡◌, ◌+◌, ◌*◌, ◌≤◌, min, length};
 ghost use Rattle.octets.specs.Numbers.{number_at};
 ghost use Rattle.rows.specs.Rows.{number_octets, table_of, in_use, found_in};
@@ -38,8 +40,8 @@ fn number_in(rows: &[u8], at: usize) -> u16
 
 // The first of `used` rows that has the number, two rows a turn. All of these rows lie inside the run.
 fn search(rows: &[u8], width: usize, used: usize, number: u16) -> Found
-    requires fact_1 { number_octets ≤ width }
-    requires fact_2 { width * used ≤ length rows.now }
+    requires number_inside { number_octets ≤ width }
+    requires rows_inside { width * used ≤ length rows.now }
     ensures { result ≡ found_in (table_of width rows.now) used number }
 {
     let mut i = 0;

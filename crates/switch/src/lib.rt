@@ -1,4 +1,6 @@
 // The frame call: the filter by the tables that the caller lends, then the policing step on the link's account.
+#![tactic(auto)]
+
 ghost use Rattle.std.specs.Prelude.{◌≡◌, ◌+◌, ◌*◌, ◌≤◌, ◌<◌, length};
 ghost use Rattle.frame.specs.Frame.{length_code};
 ghost use Rattle.tables.specs.Rows.{account_octets, config_for};
@@ -76,9 +78,9 @@ fn accounts_in_use(count: usize, accounts: usize, credits: usize, lasts: usize) 
 // Account a, which is in use, with its credit and last time. The account's row is passed on as a part of just its
 // length.
 fn account_held(accounts: &[u8], credits: &[u32], lasts: &[u64], a: u16) -> Account
-    requires fact_1 { account_octets * a + account_octets ≤ length accounts.now }
-    requires fact_2 { a < length credits.now }
-    requires fact_3 { a < length lasts.now }
+    requires row_inside { account_octets * a + account_octets ≤ length accounts.now }
+    requires credit_inside { a < length credits.now }
+    requires last_inside { a < length lasts.now }
     ensures { result ≡ account_held accounts.now (state_of credits.now lasts.now) a }
 {
     let i = a as usize;

@@ -1,4 +1,6 @@
 // The verdict on a frame, as a frame call answers it.
+#![tactic(auto)]
+
 ghost use Rattle.std.specs.Prelude.{◌≡◌};
 ghost use Rattle.account.specs.Step.{step_reported};
 ghost use Rattle.switch_verdict.specs.Verdict.{reported, with_mask};

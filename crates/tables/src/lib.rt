@@ -1,5 +1,7 @@
 // The tables that a switch is lent: rows of 6 octets an account and 13 a link, in the order of the image's data. Rows
 // are decoded here, and a link's number is looked up.
+#![tactic(auto)]
+
 ghost use Rattle.std.specs.Prelude.{◌≡◌, ◌+◌, ◌≤◌, ◌<◌, length, get_or};
 ghost use Rattle.octets.specs.Numbers.{number_at};
 ghost use Rattle.tables.specs.Rows.{account_octets, terms_at, link_octets, link_at, found, lookup_in};

@@ -1,5 +1,7 @@
 // The value rules of rows: those of an account's values, and those of a link among the accounts. Reading and writing an
 // image answer 23 by these rules, and a frame call answers 10. Every function is total.
+#![tactic(auto)]
+
 ghost use Rattle.std.specs.Prelude.{◌≡◌};
 ghost use Rattle.rows.specs.Rows.{rows_by};
 ghost use Rattle.tables.specs.Rows.{account_in};

@@ -1,5 +1,7 @@
 // The configured values of a bandwidth account (ARINC 664P7): their limits, and what follows from them alone. Credit is
 // counted in octets times the microseconds of the BAG, so no product is ever rounded.
+#![tactic(auto)]
+
 ghost use Rattle.std.specs.Prelude.{◌≡◌, ◌≤◌};
 ghost use Rattle.terms.specs.Terms.{largest_k, bag, terms_good, charge, rate, by_octets, charged, checked_capacity, checked_cost};
 

@@ -1,0 +1,29 @@
+-- `payload`: the empty part where the length is refused; a frame that is read is long enough for its parts. Assumes
+-- nothing.
+use Rattle.frame.proofs.Frame.{payload_refused, payload_read, long_enough_lem}
+use Prim.Native.Nat.{◌≤◌}
+use native.Mathlib.Omega.{arith}
+use lib.ListN.{length}
+use borrow.Author.Rules.{rules}
+use Rattle.frame.specs.Limits.{smallest_frame}
+use Rattle.frame.proofs.payload.Goals as goal
+use Rattle.frame.proofs.payload.Goals.{Else-length_code-ne-SUCCESS}
+
+-- a frame that is read has the smallest size or more
+long : (c : Else-length_code-ne-SUCCESS) → smallest_frame ≤ length c.args.frame.now
+long c = long_enough_lem _ _ c.length_code.ensures c.if-length_code-ne-SUCCESS.false
+
+pub returns-then-length_code-ne-SUCCESS : goal.returns-then-length_code-ne-SUCCESS
+returns-then-length_code-ne-SUCCESS c = payload_refused _ _ c.length_code.ensures _ c.if-length_code-ne-SUCCESS.true
+
+pub overflow_sub-end : goal.overflow_sub-end
+overflow_sub-end c = omega (arith, long c)
+
+pub slice_bounds-result-count-2 : goal.slice_bounds-result-count-2
+slice_bounds-result-count-2 c = omega (arith, long c)
+
+pub slice_bounds-result-start-2 : goal.slice_bounds-result-start-2
+slice_bounds-result-start-2 c = omega (arith, long c)
+
+pub returns : goal.returns
+returns c = payload_read _ _ c.length_code.ensures _ c.if-length_code-ne-SUCCESS.false

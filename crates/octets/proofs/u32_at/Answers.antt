@@ -1,0 +1,15 @@
+-- `u32_at`: 4 octets inside the run, none, or two halves. Assumes nothing.
+use mathlib.Core.Path.{sym}
+use Rattle.octets.proofs.Numbers.{number_past, number_halves}
+use Rattle.octets.proofs.Tests.{fits}
+use borrow.Author.Rules.{rules}
+use Rattle.octets.proofs.u32_at.Goals as goal
+
+pub whole_u32-requires : goal.whole_u32-requires
+whole_u32-requires c = fits _ _ _ _ c.has_room.ensures c.if-has_room.true
+
+pub returns-then-s-at : goal.returns-then-s-at
+returns-then-s-at c = sym (number_past 4 _ _ c.if-s-at.true)
+
+pub returns : goal.returns
+returns c = number_halves 2 _ _ _ _ c.u16_at.ensures c.u16_at-2.ensures

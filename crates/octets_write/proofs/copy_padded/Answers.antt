@@ -1,0 +1,43 @@
+-- `copy_padded`: the part octet by octet. The loop's invariant: the first i octets are written. Assumes nothing.
+use Prim.Native.Nat.{◌-◌}
+use mathlib.Core.Path.{refl}
+use native.Mathlib.Nat.{min-le_right}
+use native.Mathlib.Omega.{arith}
+use lib.ListN.{length}
+use Rattle.octets.proofs.Parts.{get_d_from}
+use Rattle.octets.proofs.Filled.{Filled, octet_from, part_ones, fill_start, fill_one, fill_end}
+use borrow.Author.Rules.{rules}
+use Rattle.octets_write.proofs.copy_padded.Goals as goal
+
+pub loop-i-init : goal.loop-i-init
+loop-i-init c = fill_start (λ k. refl) (omega (arith, c.requires))
+
+pub overflow_add-start : goal.overflow_add-start
+overflow_add-start c =
+    let a = c.args in
+    omega (arith, c.least-start.ensures, min-le_right a.at (length a.from.now))
+
+pub overflow_add-to : goal.overflow_add-to
+overflow_add-to c = omega arith
+
+pub bounds-to-offset : goal.bounds-to-offset
+bounds-to-offset c = omega arith
+
+pub overflow_add-i : goal.overflow_add-i
+overflow_add-i c = omega arith
+
+pub loop-i-smaller : goal.loop-i-smaller
+loop-i-smaller c = omega arith
+
+pub loop-i-preserved : goal.loop-i-preserved
+loop-i-preserved c =
+    let s = (goal.at.loop-i-preserved c).After-least-start in
+    let l = c.loop-i in
+    fill_one l.invariant c.loop-i-test.true refl
+    (get_d_from s.before.before.before.args.from.now _ l.i s.least.ensures c.octet_at.ensures)
+
+pub UNKNOWN-same-length : goal.UNKNOWN-same-length
+UNKNOWN-same-length c = c.loop-i.invariant.long
+
+pub returns : goal.returns
+returns c = search (fill_end, part_ones)
