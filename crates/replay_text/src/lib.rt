@@ -26,7 +26,7 @@ pub fn longest_line() -> usize
 
 // The line of a frame whose answer carries a credit.
 fn put_credit_line(out: &mut [u8], at: usize, number: u64, code: u8, credit: u32) -> usize
-    ensures put { appended_of result out.new ≡ appended out.old at (frame_line number code (some credit)) }
+    ensures line_put { appended_of result out.new ≡ appended out.old at (frame_line number code (some credit)) }
     ensures fits { length (frame_line number code (some credit)) ≤ longest_line }
 {
     let mut line = [0u8; LONGEST_LINE];
@@ -38,7 +38,7 @@ fn put_credit_line(out: &mut [u8], at: usize, number: u64, code: u8, credit: u32
 
 // The line of a frame whose answer is only its code.
 fn put_code_line(out: &mut [u8], at: usize, number: u64, code: u8) -> usize
-    ensures put { appended_of result out.new ≡ appended out.old at (frame_line number code none) }
+    ensures line_put { appended_of result out.new ≡ appended out.old at (frame_line number code none) }
     ensures fits { length (frame_line number code none) ≤ longest_line }
 {
     let mut line = [0u8; LONGEST_LINE];
@@ -50,7 +50,7 @@ fn put_code_line(out: &mut [u8], at: usize, number: u64, code: u8) -> usize
 
 // The line of a frame: its number, the code of its answer, and the credit of that answer. No such line is longer than the longest.
 pub fn put_line(out: &mut [u8], at: usize, number: u64, verdict: Verdict) -> usize
-    ensures put { appended_of result out.new ≡ appended out.old at (line_of number (reported verdict)) }
+    ensures line_put { appended_of result out.new ≡ appended out.old at (line_of number (reported verdict)) }
     ensures fits { length (line_of number (reported verdict)) ≤ longest_line }
 {
     match verdict {

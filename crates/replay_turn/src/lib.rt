@@ -92,7 +92,7 @@ fn put_answer(
     lasts: &mut [u64],
     links: &[u8],
 ) -> usize
-    ensures put { lined_of result out.new (state_of credits.new lasts.new)
+    ensures line_put { lined_of result out.new (state_of credits.new lasts.new)
         ≡ lined
         (config_for settings accounts.now links.now)
         (state_of credits.old lasts.old)
