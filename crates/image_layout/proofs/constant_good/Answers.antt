@@ -4,12 +4,8 @@ use mathlib.Core.Path.{ap}
 use lib.Bits.{and_mask}
 use lib.Dec.{eqb}
 use Rattle.image_layout.specs.Layout.{constant_good}
-use Rattle.image_layout.proofs.constant_good.Statement.{statement}
-use Rattle.image_layout.proofs.constant_good.Tie as tie
+use Rattle.image_layout.proofs.constant_good.Goals as goal
 
-returns : tie.Need-returns
+pub returns : goal.returns
 unfolding constant_good
 returns c = ap (λ (r : ℕ). eqb r 3) (and_mask (c.args.constant / 2 ^ 24) 2)
-
-pub constant-good-spec : {M : Type 1} → statement M
-constant-good-spec = tie.close (tie.spec returns)
