@@ -38,13 +38,15 @@ called_long g s os port time x e h =
     let some : x ≡ 0 → ⊥ = λ z. omega arith in
     call_stopped g s (call_of os port time) _ (route_stopped os g.constant g.links g.count_of_links x (frame_length g.constant os x e some) some) x refl
 
-module _ (g : Config) (s : State) (d log : List ℕ) (r : FrameRecord) where
-  pub answer_skipped : (x : ℕ) (b : List ℕ) → b ≡ put d 0 (octets_at r.size log r.start) → x ≡ length_code r.size → largest_frame < r.size
-      → replied_of (after_of (reported (Refused x)) s) b ≡ replied g s d (record_call log r)
-  answer_skipped x b f e h =
-      let n : length (octets_at r.size log r.start) ≡ r.size = length_part r.size log r.start in
-      ap₂ replied_of (called_long g s (octets_at r.size log r.start) r.port r.time x (e ∙ ap length_code (sym n)) (omega arith)) f
+-- and so is a record's frame that is too long, whatever its octets
+pub called_skipped : (g : Config) (s : State) (log : List ℕ) (n start port time : ℕ) → largest_frame < n
+    → called g s (call_of (octets_at n log start) port time) ≡ after_of (reported (Refused (length_code n))) s
+called_skipped g s log n start port time h =
+    let l : length (octets_at n log start) ≡ n = length_part n log start in
+    sym (called_long g s (octets_at n log start) port time (length_code n) (ap length_code (sym l)) (omega arith))
 
+-- the frame's octets copied, and answered
+module _ (g : Config) (s : State) (d log : List ℕ) (r : FrameRecord) where
   pub answer_copied : (a : After) (b : List ℕ) → b ≡ put d 0 (octets_at r.size log r.start) → r.size ≤ length d
       → a ≡ called g s (call_of (take r.size b) r.port r.time) → replied_of a b ≡ replied g s d (record_call log r)
   answer_copied a b e h f =

@@ -47,6 +47,7 @@ fn judge(
 
 // The answer to a frame of a log, by the tables that were loaded. The frame is copied into the frame buffer and handed on as a
 // part of the buffer; a frame that is longer than the buffer is skipped over, and nothing is copied.
+#[tactic(auto, using(crate::proofs::Answering::called_skipped))]
 pub fn answer(
     log: &[u8],
     logged: FrameRecord,
