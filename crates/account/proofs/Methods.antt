@@ -6,7 +6,7 @@ use native.Mathlib.Nat.{min-le_left}
 use native.Mathlib.Omega.{arith}
 use lib.Dec.{leb, eqb}
 use borrow.Author.Tests.{leb-true, le-leb, lt-leb, eq-eqb, ne_eqb}
-use Rattle.lists.specs.Choice.{if◌then◌else◌}
+use Rattle.std.specs.Prelude.{if◌then◌else◌}
 use Rattle.lists.proofs.Tests.{split, both}
 use Rattle.frame.specs.Frame.{length_code}
 use Rattle.terms.specs.Terms.{terms_good, rate, capacity, cost, checked_capacity, checked_cost}

@@ -1,7 +1,7 @@
 -- An account with its credit and last time, and what its methods give (document 01, "Credit, in whole units").
 use Rattle.std.specs.Prelude.{ℕ, ◌+◌, ◌-◌, ◌*◌, min, Bool, ◌&&◌, leb, eqb}
 use Rattle.codes.specs.Codes
-use Rattle.lists.specs.Choice.{if◌then◌else◌}
+use Rattle.std.specs.Prelude.{if◌then◌else◌}
 use Rattle.frame.specs.Frame.{length_code}
 use Rattle.terms.specs.Terms.{terms_good, rate, capacity, cost}
 use Rattle.terms.specs.declared.Terms.{Terms}

@@ -13,7 +13,7 @@ use terms::Terms;
 const LONG_ELAPSED: u64 = 4294967296;
 
 // The configured values, the credit, and the time of the last frame that reached the account.
-#[derive(Drop)]
+#[derive(Clone, Copy)]
 pub struct Account {
     pub terms: Terms,
     pub credit: u32,
@@ -21,7 +21,7 @@ pub struct Account {
 }
 
 // What capacity and cost hand back: a number of credit units, and the account that was asked, unchanged.
-#[derive(Drop)]
+#[derive(Clone, Copy)]
 pub struct Measured {
     pub units: u32,
     pub account: Account,
@@ -29,7 +29,7 @@ pub struct Measured {
 
 // The answer of a policing step: forwarded with the credit left, short or late with the credit held, or refused
 // with its code.
-#[derive(Drop)]
+#[derive(Clone, Copy)]
 pub enum Outcome {
     Forwarded(u32),
     Short(u32),
@@ -39,7 +39,7 @@ pub enum Outcome {
 
 // What is decided of a frame: the answer, and the account's credit and last time after the frame. The account's terms
 // stay.
-#[derive(Drop)]
+#[derive(Clone, Copy)]
 pub struct Ruling {
     pub outcome: Outcome,
     pub credit: u32,
@@ -47,7 +47,7 @@ pub struct Ruling {
 }
 
 // What a policing step gives: its answer, and the account after it.
-#[derive(Drop)]
+#[derive(Clone, Copy)]
 pub struct Policed {
     pub outcome: Outcome,
     pub account: Account,

@@ -2,7 +2,7 @@
 -- frames that were answered 0 or 9, with their cost where the answer was 0. Proved in proofs/Counted.antt.
 use Rattle.std.specs.Prelude.{ℕ, ◌≤◌, ◌<◌, Bool, true, ◌||◌, ◌≡◌, length, get_or, eqb}
 use mathlib.Core.List.{List, [], map, zip, reverse}
-use Rattle.lists.specs.Choice.{if◌then◌else◌}
+use Rattle.std.specs.Prelude.{if◌then◌else◌}
 use Rattle.lists.specs.Lists.{only}
 use Rattle.terms.specs.Terms.{terms_good, cost}
 use Rattle.terms.specs.declared.Terms.{Terms}

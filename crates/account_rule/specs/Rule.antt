@@ -2,7 +2,7 @@
 -- answer, and the codes by the rule, which names no stored credit.
 use Rattle.std.specs.Prelude.{ℕ, ◌+◌, ◌*◌, ◌≤◌, true, not, ◌≡◌, List, [], ◌∷◌, map, ◌↔◌, ltb, eqb}
 use Rattle.codes.specs.Codes
-use Rattle.lists.specs.Choice.{if◌then◌else◌}
+use Rattle.std.specs.Prelude.{if◌then◌else◌}
 use Rattle.lists.specs.History.{Machine, answers, final}
 use Rattle.frame.specs.Frame.{length_code}
 use Rattle.terms.specs.Terms.{terms_with, terms_good, bag, rate, cost}

@@ -2,7 +2,7 @@
 -- list of calls. It reads no credit, no stored time and no verdict.
 use Rattle.std.specs.Prelude.{ℕ, Bool, false, not, ◌&&◌, List, [], map, length, leb, eqb}
 use Rattle.codes.specs.Codes
-use Rattle.lists.specs.Choice.{if◌then◌else◌}
+use Rattle.std.specs.Prelude.{if◌then◌else◌}
 use Rattle.lists.specs.History.{Machine, answers, left_by, by_calls}
 use Rattle.lists.specs.Lists.{only}
 use Rattle.frame.specs.Frame.{link_number}

@@ -4,7 +4,7 @@
 use Rattle.std.specs.Prelude.{ℕ, List, eqb}
 use Rattle.std.proofs.Math.Option.{Option, none, some}
 use Rattle.tables.specs.Rows.{settings_of}
-use Rattle.lists.specs.Choice.{if◌then◌else◌}
+use Rattle.std.specs.Prelude.{if◌then◌else◌}
 use Rattle.frame.specs.declared.Header.{Header}
 use Rattle.terms.specs.Terms.{terms_with}
 use Rattle.account.specs.Account.{account_of}

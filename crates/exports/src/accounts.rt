@@ -8,7 +8,7 @@ use account::{Account, Outcome};
 use terms::Terms;
 
 // A policing step's answer in numbers.
-#[derive(Drop)]
+#[derive(Clone, Copy)]
 struct StepNumbers {
     code: u8,
     credit: u32,

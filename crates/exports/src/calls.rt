@@ -10,7 +10,7 @@ use switch_verdict::Verdict;
 use tables::Settings;
 
 // A verdict in numbers.
-#[derive(Drop)]
+#[derive(Clone, Copy)]
 struct CallNumbers {
     code: u8,
     mask: u32,

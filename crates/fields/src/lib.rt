@@ -9,7 +9,7 @@ ghost use Rattle.fields.specs.Fields.{field_at, stands_at};
 pub const TAG_AND_LENGTH: usize = 3;
 
 // What stands at an offset: the tag and the length, whether both are there, and whether all data are there.
-#[derive(Drop)]
+#[derive(Clone, Copy)]
 pub struct Field {
     pub headed: bool,
     pub tag: u8,

@@ -1,12 +1,12 @@
 -- Laws of the filter, case by case as the code makes its tests. Assumes nothing.
 use Prim.Native.Nat.{ℕ, ◌≤◌, ◌<◌}
-use mathlib.Core.Bool.{Bool, true, false, not}
+use mathlib.Core.Bool.{Bool, true, false}
 use mathlib.Core.List.{List}
 use mathlib.Core.Path.{◌≡◌, refl, sym, ap, ◌∙◌}
 use native.Mathlib.Omega.{arith}
 use lib.ListN.{length}
 use lib.Dec.{ltb, eqb}
-use borrow.Author.Tests.{lt-ltb, le-ltb, ltb-false, eq-eqb, ne_eqb, eqb-true, eqb-false, not-true, not-false}
+use borrow.Author.Tests.{lt-ltb, le-ltb, ltb-false, eq-eqb, ne_eqb, eqb-true, eqb-false}
 use Rattle.lists.proofs.Tests.{split}
 use Rattle.frame.specs.Frame.{length_code, constant_field, link_number}
 use Rattle.frame.proofs.Frame.{by_length}
@@ -40,12 +40,12 @@ module _ (constant : ℕ) (f : List ℕ) (h : ℕ) (e : h ≡ length_code (lengt
 
 -- the code of the frame alone, by whether the length is a frame's, as the code asks first
 module _ (constant : ℕ) (f : List ℕ) (b : Bool) (e : b ≡ eqb (length_code (length f)) 0) where
-  pub code_length : not b ≡ true → (r : ℕ) → r ≡ length_code (length f) → r ≡ frame_code constant f
-  code_length h r q = q ∙ frame_length constant f (length_code (length f)) refl (eqb-false _ _ (sym e ∙ not-true b h))
+  pub code_length : b ≡ false → (r : ℕ) → r ≡ length_code (length f) → r ≡ frame_code constant f
+  code_length h r q = q ∙ frame_length constant f (length_code (length f)) refl (eqb-false _ _ (sym e ∙ h))
 
-  module _ (h : not b ≡ false) (x : ℕ) (q : x ≡ constant_field f) where
+  module _ (h : b ≡ true) (x : ℕ) (q : x ≡ constant_field f) where
     size_good : length_code (length f) ≡ 0
-    size_good = eqb-true _ _ (sym e ∙ not-false b h)
+    size_good = eqb-true _ _ (sym e ∙ h)
 
     pub code_constant : (x ≡ constant → ⊥) → 3 ≡ frame_code constant f
     code_constant = frame_constant constant f (length_code (length f)) refl size_good x q

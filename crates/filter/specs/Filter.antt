@@ -2,7 +2,7 @@
 -- and 5, is the frame call's). The frame call and the rule over a history both cite these codes.
 use Rattle.std.specs.Prelude.{ℕ, not, List, length, ltb, eqb}
 use Rattle.codes.specs.Codes
-use Rattle.lists.specs.Choice.{if◌then◌else◌}
+use Rattle.std.specs.Prelude.{if◌then◌else◌}
 use Rattle.frame.specs.Frame.{length_code, constant_field, link_number}
 use Rattle.tables.specs.Rows.{link_table, link_in, found}
 use Rattle.rows.specs.declared.Found.{Found}

@@ -8,7 +8,7 @@ ghost use Rattle.filter.specs.Filter.{frame_code, port_code, routed};
 use tables::{Link, Lookup};
 
 // The route of a frame before the account is looked at: a refusal's code, or the link.
-#[derive(Drop)]
+#[derive(Clone, Copy)]
 pub enum Route {
     Stopped(u8),
     OnLink(Link),

@@ -1,7 +1,7 @@
 -- What the octets of a frame say (document 01, "The frame").
 use Rattle.std.specs.Prelude.{ℕ, ◌+◌, ◌-◌, List, [], length, get_or, take, drop, ltb, eqb}
 use Rattle.codes.specs.Codes
-use Rattle.lists.specs.Choice.{if◌then◌else◌}
+use Rattle.std.specs.Prelude.{if◌then◌else◌}
 use Rattle.octets.specs.Numbers.{number_at}
 use Rattle.frame.specs.Limits.{smallest_frame, largest_frame}
 use Rattle.frame.specs.declared.Header.{Header}

@@ -16,7 +16,7 @@ const PAYLOAD_START: usize = 14;
 const SEQUENCE_FROM_END: usize = 5;
 
 // What a frame says besides its payload: the code of reading it, its virtual link and its sequence number.
-#[derive(Drop)]
+#[derive(Clone, Copy)]
 pub struct Header {
     pub code: u8,
     pub link: u16,

@@ -1,7 +1,7 @@
 -- The checks of one field of an image (document 01, "The configuration image").
 use Rattle.std.specs.Prelude.{ℕ, ◌+◌, Bool, true, false, not, ◌&&◌, ◌||◌, List, get_or, leb, eqb}
 use Rattle.codes.specs.Codes
-use Rattle.lists.specs.Choice.{if◌then◌else◌}
+use Rattle.std.specs.Prelude.{if◌then◌else◌}
 use Rattle.rows.specs.Rows.{Rows}
 use Rattle.tables.specs.Rows.{account_octets, link_octets}
 use Rattle.tables_rules.specs.Rules.{account_good, link_good}

@@ -59,7 +59,7 @@ pub fn head_code(image: &[u8]) -> u8
 }
 
 // Whether a tag may stand after so many accounts and links.
-fn in_order_lem(tag: u8, accounts: u16, links: u16) -> bool
+fn in_order(tag: u8, accounts: u16, links: u16) -> bool
     ensures { result ≡ in_order tag accounts links }
 {
     if accounts == 0 {
@@ -125,7 +125,7 @@ pub fn next_code(image: &[u8], accounts: u16, links: u16) -> u8
     ensures { result ≡ next_code image.now accounts links }
 {
     let field = fields::read(image, image_layout::field_offset(accounts, links));
-    let order = in_order_lem(field.tag, accounts, links);
+    let order = in_order(field.tag, accounts, links);
     let full = is_full(field.tag, accounts, links);
     let good = values_good(image, field.tag, accounts, links);
     field_code(field, order, data_octets(field.tag), full, good)

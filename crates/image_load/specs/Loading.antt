@@ -2,7 +2,7 @@
 -- units").
 use Rattle.std.specs.Prelude.{ℕ, ◌*◌, Bool, not, ◌&&◌, List, length, leb, eqb}
 use Rattle.codes.specs.Codes
-use Rattle.lists.specs.Choice.{if◌then◌else◌}
+use Rattle.std.specs.Prelude.{if◌then◌else◌}
 use Rattle.tables.specs.Rows.{account_octets, link_octets}
 use Rattle.image_read.specs.Read.{image_refused, read_image}
 use Rattle.image_read.specs.declared.ImageAnswer.{ImageAnswer}

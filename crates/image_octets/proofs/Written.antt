@@ -3,10 +3,10 @@ use Prim.Native.Nat.{ℕ, ◌+◌, ◌*◌, ◌≤◌, ◌<◌}
 use mathlib.Core.List.{List, [], ◌∷◌, ◌++◌}
 use mathlib.Core.Path.{◌≡◌, refl, sym, ap, ◌∙◌}
 use native.Mathlib.Omega.{arith}
-use mathlib.Core.Bool.{Bool, false, not}
+use mathlib.Core.Bool.{Bool, true}
 use lib.Dec.{leb}
 use lib.ListN.{length, set, length-append, length-set}
-use Rattle.octets.proofs.Tests.{has_room_first}
+use Rattle.octets.proofs.Tests.{fits_first}
 use Rattle.octets.specs.Numbers.{octets_of}
 use Rattle.octets.specs.Runs.{octets_at, joined, put}
 use Rattle.octets.proofs.Numbers.{length_octets}
@@ -101,8 +101,8 @@ pub length_sized : (tag size : ℕ) (s : List ℕ) (at : ℕ) → length (field_
 length_sized tag size s at = length_field tag (octets_at size s at) ∙ ap (λ (n : ℕ). tag_and_length + n) (length_part size s at)
 
 -- the test of room, for a length that is known
-pub room_of : (len x y : ℕ) (r : Bool) → x ≡ y → r ≡ leb (0 + x) len → not r ≡ false → y ≤ len
-room_of len x y r e v h = rw e at (has_room_first len x r v h)
+pub room_of : (len x y : ℕ) (r : Bool) → x ≡ y → r ≡ leb (0 + x) len → r ≡ true → y ≤ len
+room_of len x y r e v h = rw e at (fits_first len x r v h)
 
 -- the room for the head is still there once the head's tag and length are written
 pub head_inside : (d e : List ℕ) (tag : ℕ) (xs : List ℕ) → head_size ≤ length d → e ≡ put (set d 0 tag) 1 xs → 3 < length e

@@ -1,13 +1,13 @@
 -- Octets that are written out as an image, with good values, read as accepted: the converse of Accepted. Assumes
 -- nothing.
 use Prim.Native.Nat.{ℕ, ◌+◌, ◌≤◌, ◌<◌}
-use mathlib.Core.Bool.{Bool, true, false, not, ◌&&◌, false≢true}
+use mathlib.Core.Bool.{Bool, true, false, ◌&&◌, false≢true}
 use mathlib.Core.List.{List}
 use mathlib.Core.Path.{◌≡◌, refl, sym, ap, ap₂, ◌∙◌}
 use native.Mathlib.Omega.{arith}
 use lib.Dec.{eqb}
 use lib.ListN.{length, get_or}
-use borrow.Author.Tests.{lt-leb, eq-eqb, ne_eqb, eqb-true, not-true, not-false}
+use borrow.Author.Tests.{lt-leb, eq-eqb, ne_eqb, eqb-true}
 use Rattle.octets.specs.Numbers.{number_at}
 use Rattle.lists.proofs.Tests.{split, both}
 use Rattle.tables.specs.Rows.{account_octets, link_octets, settings_of}
@@ -66,14 +66,14 @@ module _ (s : List ℕ) (tag n m : ℕ) where
     there : b ≡ stands_at s (field_offset n m) tag (data_octets tag)
     there = e ∙ ap (λ (x : ℕ). stands_at s x tag (data_octets tag)) p
 
-    field_unlike : not b ≡ true → false ≡ good_field s tag n m
+    field_unlike : b ≡ false → false ≡ good_field s tag n m
     field_unlike h =
-        split (good_field s tag n m) (λ g. absurd (false≢true (sym (not-true b h) ∙ there ∙ good_stands g))) (λ g. sym g)
+        split (good_field s tag n m) (λ g. absurd (false≢true (sym h ∙ there ∙ good_stands g))) (λ g. sym g)
 
-    field_valued : not b ≡ false → in_order tag n m ≡ true → is_full tag n m ≡ false → (v : Bool) → v ≡ values_good s tag n m → v ≡ good_field s tag n m
+    field_valued : b ≡ true → in_order tag n m ≡ true → is_full tag n m ≡ false → (v : Bool) → v ≡ values_good s tag n m → v ≡ good_field s tag n m
     field_valued h o f v q =
         split v
-        (λ z. z ∙ sym (field_passes (sym there ∙ not-false b h) o f (sym q ∙ z)))
+        (λ z. z ∙ sym (field_passes (sym there ∙ h) o f (sym q ∙ z)))
         (λ z. split (good_field s tag n m) (λ g. q ∙ (good_passes s tag n m g).sound ∙ sym g) (λ g. z ∙ sym g))
 
 account_ordered : (i : ℕ) → in_order account_tag i 0 ≡ true
@@ -101,20 +101,20 @@ module _ (s : List ℕ) where
       (field_passes s end_tag n m w (sym (order_end end_tag n m (λ y. omega arith) (λ y. omega arith) (λ y. omega arith))) refl refl)
 
 module _ (s : List ℕ) (i at : ℕ) (p : at ≡ field_offset i 0) (b : Bool) (e : b ≡ stands_at s at account_tag account_octets) where
-  pub account_unlike : not b ≡ true → false ≡ good_field s account_tag i 0
+  pub account_unlike : b ≡ false → false ≡ good_field s account_tag i 0
   unfolding data_octets
   account_unlike = field_unlike s account_tag i 0 at p b e
 
-  pub account_valued : not b ≡ false → i < max_accounts → (v : Bool) → v ≡ account_good (account_fields s) i → v ≡ good_field s account_tag i 0
+  pub account_valued : b ≡ true → i < max_accounts → (v : Bool) → v ≡ account_good (account_fields s) i → v ≡ good_field s account_tag i 0
   unfolding data_octets is_full values_good
   account_valued h l = field_valued s account_tag i 0 at p b e h (account_ordered i) (lt-leb _ _ l)
 
 module _ (s : List ℕ) (n j at : ℕ) (p : at ≡ field_offset n j) (b : Bool) (e : b ≡ stands_at s at link_tag link_octets) where
-  pub link_unlike : not b ≡ true → false ≡ good_field s link_tag n j
+  pub link_unlike : b ≡ false → false ≡ good_field s link_tag n j
   unfolding data_octets
   link_unlike = field_unlike s link_tag n j at p b e
 
-  pub link_valued : not b ≡ false → 1 ≤ n → j < max_links → (v : Bool) → v ≡ link_good (account_fields s) (link_fields s n) n j → v ≡ good_field s link_tag n j
+  pub link_valued : b ≡ true → 1 ≤ n → j < max_links → (v : Bool) → v ≡ link_good (account_fields s) (link_fields s n) n j → v ≡ good_field s link_tag n j
   unfolding data_octets is_full values_good
   link_valued h o l = field_valued s link_tag n j at p b e h (link_ordered n j o) (lt-leb _ _ l)
 

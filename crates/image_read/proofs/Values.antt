@@ -1,12 +1,12 @@
 -- Laws of the values of a field that stands whole, read at its offset. Assumes nothing.
 use Prim.Native.Nat.{ℕ, ◌+◌, ◌-◌, ◌≤◌}
-use mathlib.Core.Bool.{Bool, false, not}
+use mathlib.Core.Bool.{Bool, true}
 use mathlib.Core.List.{List}
 use mathlib.Core.Path.{◌≡◌, sym, ap, ap₂, ◌∙◌}
 use native.Mathlib.Omega.{arith}
 use lib.Dec.{ltb}
 use lib.ListN.{length, take, drop}
-use borrow.Author.Tests.{ne_eqb, not-false}
+use borrow.Author.Tests.{ne_eqb}
 use Rattle.octets.specs.Numbers.{number_at}
 use Rattle.fields.specs.Fields.{tag_and_length, stands_at}
 use Rattle.fields.proofs.Fields.{stands_whole}
@@ -21,8 +21,8 @@ use Rattle.image_layout.proofs.Offsets.{account_offset, link_offset}
 use Rattle.image_field.specs.Checks.{account_fields, link_fields}
 
 -- the data of a field that stands whole are inside the image
-pub inside : (s : List ℕ) (at tag size : ℕ) (b : Bool) → b ≡ stands_at s at tag size → not b ≡ false → at + (tag_and_length + size) ≤ length s
-inside s at tag size b e h = stands_whole s at tag size (sym e ∙ not-false b h)
+pub inside : (s : List ℕ) (at tag size : ℕ) (b : Bool) → b ≡ stands_at s at tag size → b ≡ true → at + (tag_and_length + size) ≤ length s
+inside s at tag size b e h = stands_whole s at tag size (sym e ∙ h)
 
 -- ---- an account: its values, and its Smax
 pub account_values : (s : List ℕ) (i at : ℕ) → at ≡ field_offset i 0 → (p : Terms)

@@ -2,7 +2,7 @@
 -- proofs/Prefix.antt.
 use Rattle.std.specs.Prelude.{ℕ, zero, suc, ◌+◌, ◌*◌, ◌≤◌, ◌<◌, true, ◌↔◌, ◌≡◌, length, take}
 use mathlib.Core.List.{List, [], ◌∷◌, Memᴰ}
-use Rattle.lists.specs.Choice.{if◌then◌else◌}
+use Rattle.std.specs.Prelude.{if◌then◌else◌}
 use Rattle.image_layout.specs.Layout.{account_tag, link_tag, end_tag, image_length, max_accounts, max_links, longest_image, image_prefix}
 use Rattle.octets.specs.Numbers.{number_at}
 use Rattle.tables.specs.Rows.{settings_of}

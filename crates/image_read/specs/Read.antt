@@ -2,7 +2,7 @@
 -- configuration image").
 use Rattle.std.specs.Prelude.{ℕ, Bool, not, ◌&&◌, List, length, ltb, eqb}
 use Rattle.codes.specs.Codes
-use Rattle.lists.specs.Choice.{if◌then◌else◌}
+use Rattle.std.specs.Prelude.{if◌then◌else◌}
 use Rattle.lists.specs.Leading.{leading}
 use Rattle.tables.specs.Rows.{settings_of}
 use Rattle.image_layout.specs.Layout.{account_tag, link_tag, field_offset, image_length, max_accounts, max_links, constant_of}

@@ -11,7 +11,7 @@ use tables::Settings;
 
 // What reading or loading an image answers: the code, the offset of the code, and on success the settings that the
 // image names.
-#[derive(Drop)]
+#[derive(Clone, Copy)]
 pub struct ImageAnswer {
     pub code: u8,
     pub offset: usize,

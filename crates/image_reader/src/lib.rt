@@ -7,7 +7,7 @@ ghost use Rattle.image_fill.specs.Filling.{runs_of};
 
 use image_read::ImageAnswer;
 
-#[derive(Drop)]
+#[derive(Clone, Copy)]
 pub struct Reader<'a> {
     pub image: &'a [u8],
     pub at: usize,

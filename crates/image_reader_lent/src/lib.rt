@@ -9,7 +9,7 @@ ghost use Rattle.image_fill.specs.Filling.{runs_of};
 use image_read::ImageAnswer;
 
 // What a reader answered, and the reader's place after that.
-#[derive(Drop)]
+#[derive(Clone, Copy)]
 pub struct Reading {
     pub answer: ImageAnswer,
     pub at: usize,

@@ -1,12 +1,12 @@
 -- Laws of what writing answers, case by case as the code makes the checks. Assumes nothing.
 use Prim.Native.Nat.{ℕ, ◌*◌, ◌≤◌, ◌<◌}
-use mathlib.Core.Bool.{Bool, true, false, not}
+use mathlib.Core.Bool.{Bool, true, false}
 use mathlib.Core.List.{List}
 use mathlib.Core.Path.{◌≡◌, sym, ap, ap₂, ◌∙◌}
 use native.Mathlib.Omega.{arith}
 use lib.Dec.{ltb, leb, eqb}
 use lib.ListN.{length}
-use borrow.Author.Tests.{lt-ltb, le-ltb, ltb-true, ltb-false, le-leb, lt-leb, leb-true, eq-eqb, ne_eqb, eqb-true, eqb-false, not-true, not-false}
+use borrow.Author.Tests.{lt-ltb, le-ltb, ltb-true, ltb-false, le-leb, lt-leb, leb-true, eq-eqb, ne_eqb, eqb-true, eqb-false}
 use Rattle.octets.specs.Runs.{put}
 use Rattle.lists.proofs.Tests.{split, both}
 use Rattle.tables.specs.Rows.{Config, account_octets, link_octets}
@@ -45,13 +45,13 @@ module _ (n limit w lent : ℕ) where
 -- ---- both counts
 module _ (accounts : List ℕ) (n : ℕ) (links : List ℕ) (m : ℕ) where
   module _ (r : Bool) (e : r ≡ count_good n max_accounts account_octets (length accounts)) where
-    pub accounts_bad : not r ≡ true → false ≡ counts_good accounts n links m
+    pub accounts_bad : r ≡ false → false ≡ counts_good accounts n links m
     unfolding counts_good
-    accounts_bad h = simp (← e, not-true r h)
+    accounts_bad h = simp (← e, h)
 
-    pub links_left : not r ≡ false → (z : Bool) → z ≡ count_good m max_links link_octets (length links) → z ≡ counts_good accounts n links m
+    pub links_left : r ≡ true → (z : Bool) → z ≡ count_good m max_links link_octets (length links) → z ≡ counts_good accounts n links m
     unfolding counts_good
-    links_left h z f = f ∙ simp (← e, not-false r h)
+    links_left h z f = f ∙ simp (← e, h)
 
   pub accounts_counted : counts_good accounts n links m ≡ true → Counted n max_accounts account_octets (length accounts)
   unfolding counts_good
@@ -67,35 +67,35 @@ module _ (accounts : List ℕ) (n : ℕ) (links : List ℕ) (m : ℕ) where
 
 -- ---- the values
 module _ (g : Config) (r : Bool) (e : r ≡ constant_good g.constant) where
-  pub constant_bad : not r ≡ true → written_of 23 0 ≡ value_answer g
+  pub constant_bad : r ≡ false → written_of 23 0 ≡ value_answer g
   unfolding value_answer
-  constant_bad h = simp (← e, not-true r h)
+  constant_bad h = simp (← e, h)
 
-  module _ (h : not r ≡ false) (x : ℕ) (f : x ≡ bad_account g) where
+  module _ (h : r ≡ true) (x : ℕ) (f : x ≡ bad_account g) where
     pub account_bad : x < g.count_of_accounts → (at : ℕ) → at ≡ field_offset x 0 → written_of 23 at ≡ value_answer g
     unfolding value_answer
-    account_bad k at p = ap (written_of 23) (p ∙ ap (λ (y : ℕ). field_offset y 0) f) ∙ simp (← e, not-false r h, lt-ltb _ _ (rw f at k))
+    account_bad k at p = ap (written_of 23) (p ∙ ap (λ (y : ℕ). field_offset y 0) f) ∙ simp (← e, h, lt-ltb _ _ (rw f at k))
 
     module _ (k : g.count_of_accounts ≤ x) (y : ℕ) (q : y ≡ bad_link g) where
       pub link_bad : y < g.count_of_links → (at : ℕ) → at ≡ field_offset g.count_of_accounts y → written_of 23 at ≡ value_answer g
       unfolding value_answer
       link_bad l at p =
-          ap (written_of 23) (p ∙ ap (field_offset g.count_of_accounts) q) ∙ simp (← e, not-false r h, le-ltb _ _ (rw f at k), lt-ltb _ _ (rw q at l))
+          ap (written_of 23) (p ∙ ap (field_offset g.count_of_accounts) q) ∙ simp (← e, h, le-ltb _ _ (rw f at k), lt-ltb _ _ (rw q at l))
 
       pub all_good : g.count_of_links ≤ y → (at : ℕ) → at ≡ image_length g.count_of_accounts g.count_of_links → written_of 0 at ≡ value_answer g
       unfolding value_answer
-      all_good l at p = ap (written_of 0) p ∙ simp (← e, not-false r h, le-ltb _ _ (rw f at k), le-ltb _ _ (rw q at l))
+      all_good l at p = ap (written_of 0) p ∙ simp (← e, h, le-ltb _ _ (rw f at k), le-ltb _ _ (rw q at l))
 
 -- ---- the answer
 module _ (g : Config) (room : ℕ) (r : Bool) (e : r ≡ counts_good g.accounts g.count_of_accounts g.links g.count_of_links) where
-  pub counts_bad : not r ≡ true → written_of 24 0 ≡ write_answer g room
+  pub counts_bad : r ≡ false → written_of 24 0 ≡ write_answer g room
   unfolding write_answer
-  counts_bad h = simp (← e, not-true r h)
+  counts_bad h = simp (← e, h)
 
-  module _ (h : not r ≡ false) (q : Written) (v : q ≡ value_answer g) where
+  module _ (h : r ≡ true) (q : Written) (v : q ≡ value_answer g) where
     pub value_bad : (q.code ≡ 0 → ⊥) → q ≡ write_answer g room
     unfolding write_answer
-    value_bad d = v ∙ simp (← e, not-false r h, ne_eqb _ _ (λ z. d (ap (λ (w : Written). w.code) v ∙ z)))
+    value_bad d = v ∙ simp (← e, h, ne_eqb _ _ (λ z. d (ap (λ (w : Written). w.code) v ∙ z)))
 
     module _ (z : q.code ≡ 0) (end : ℕ) (p : end ≡ image_length g.count_of_accounts g.count_of_links) where
       fine : (value_answer g).code ≡ 0
@@ -103,11 +103,11 @@ module _ (g : Config) (room : ℕ) (r : Bool) (e : r ≡ counts_good g.accounts 
 
       pub room_short : room < end → written_of 26 0 ≡ write_answer g room
       unfolding write_answer
-      room_short k = simp (← e, not-false r h, eq-eqb _ _ fine, lt-ltb _ _ (rw p at k))
+      room_short k = simp (← e, h, eq-eqb _ _ fine, lt-ltb _ _ (rw p at k))
 
       pub room_enough : end ≤ room → q ≡ write_answer g room
       unfolding write_answer
-      room_enough k = v ∙ simp (← e, not-false r h, eq-eqb _ _ fine, le-ltb _ _ (rw p at k))
+      room_enough k = v ∙ simp (← e, h, eq-eqb _ _ fine, le-ltb _ _ (rw p at k))
 
 -- ---- case analysis of what writing answers
 module _ (g : Config) (P : Written → Type 0) where

@@ -1,7 +1,7 @@
 -- What writing an image answers and leaves in the lent room (document 01, "The configuration image", the writer).
 use Rattle.std.specs.Prelude.{ℕ, ◌*◌, Bool, not, ◌&&◌, List, length, ltb, leb, eqb}
 use Rattle.codes.specs.Codes
-use Rattle.lists.specs.Choice.{if◌then◌else◌}
+use Rattle.std.specs.Prelude.{if◌then◌else◌}
 use Rattle.octets.specs.Runs.{put}
 use Rattle.lists.specs.Leading.{leading}
 use Rattle.tables.specs.Rows.{Config, account_octets, link_octets, account_table, link_table}

@@ -8,7 +8,7 @@ ghost use Rattle.image_write.specs.Writing.{count_good, counts_good, write_answe
 mod values;
 
 // What writing answers: the code, and the length of the image or the offset that a bad field would have had.
-#[derive(Drop)]
+#[derive(Clone, Copy)]
 pub struct Written {
     pub code: u8,
     pub offset: usize,

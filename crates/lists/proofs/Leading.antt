@@ -1,11 +1,11 @@
 -- Laws of the count of consecutive items, from the first, that pass a test. Clients use these laws and leave the
 -- definition shut. Assumes nothing.
 use Prim.Native.Nat.{ℕ, zero, suc, ◌≤◌, ◌<◌}
-use mathlib.Core.Bool.{Bool, true, false, not, ◌&&◌, false≢true}
+use mathlib.Core.Bool.{Bool, true, false, ◌&&◌, false≢true}
 use mathlib.Core.Path.{◌≡◌, refl, sym, ap, ap₂, ◌∙◌}
 use native.Mathlib.Omega.{arith}
 use lib.Dec.{leb, eqb}
-use borrow.Author.Tests.{leb-true, leb-false, eq-eqb, ne_eqb, eqb-true, not-true, not-false}
+use borrow.Author.Tests.{leb-true, leb-false, eq-eqb, ne_eqb, eqb-true}
 use Rattle.lists.proofs.Tests.{split, both}
 use Rattle.lists.specs.Leading.{leading}
 
@@ -108,11 +108,11 @@ leading_same f g (suc n) h = rw (leading_same f g n (λ k l. h k (omega arith)),
 
 -- ---- a counting loop: i items seen, the test of item i in hand
 module _ (f : ℕ → Bool) (i : ℕ) (s : leading f i ≡ i) (r : Bool) (e : r ≡ f i) where
-  pub count_stops : (n : ℕ) → i < n → not r ≡ true → i ≡ leading f n
-  count_stops n h q = sym (leading_stop f i n s (sym e ∙ not-true r q) h)
+  pub count_stops : (n : ℕ) → i < n → r ≡ false → i ≡ leading f n
+  count_stops n h q = sym (leading_stop f i n s (sym e ∙ q) h)
 
-  pub count_goes_on : not r ≡ false → leading f (suc i) ≡ suc i
-  count_goes_on q = leading_on f i s (sym e ∙ not-false r q)
+  pub count_goes_on : r ≡ true → leading f (suc i) ≡ suc i
+  count_goes_on q = leading_on f i s (sym e ∙ q)
 
 pub count_full : (f : ℕ → Bool) (i n : ℕ) → leading f i ≡ i → n ≤ i → i ≤ n → i ≡ leading f n
 count_full f i n s h k = let e : i ≡ n = omega arith in sym s ∙ ap (leading f) e

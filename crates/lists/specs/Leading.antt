@@ -1,7 +1,7 @@
 -- The count of consecutive items, from the first, that pass a test. The search for the first row with a number and for
 -- the first value that breaks a rule are such counts.
 use Rattle.std.specs.Prelude.{ℕ, zero, suc, Bool, ◌&&◌, eqb}
-use Rattle.lists.specs.Choice.{if◌then◌else◌}
+use Rattle.std.specs.Prelude.{if◌then◌else◌}
 
 -- counts consecutive items, from the first of n, that pass a test; the count is the index of the first item that fails,
 -- or n

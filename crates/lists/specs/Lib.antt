@@ -1,4 +1,3 @@
-pub mod Choice
 pub mod Claims
 pub mod History
 pub mod Leading

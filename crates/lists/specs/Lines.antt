@@ -1,6 +1,6 @@
 -- A table of codes read line by line, as document 01 has its tables ("Codes, in order of checking"; "The configuration image").
 use Rattle.std.specs.Prelude.{ℕ, Bool, List, [], ◌∷◌}
-use Rattle.lists.specs.Choice.{if◌then◌else◌}
+use Rattle.std.specs.Prelude.{if◌then◌else◌}
 
 -- a line of a table: its code, and whether the line fits
 pub record Line : Type 0 where

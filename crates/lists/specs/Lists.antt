@@ -1,6 +1,6 @@
 -- The items of a list that pass a test, and the answers to the calls that pass a test.
 use Rattle.std.specs.Prelude.{Bool, List, [], ◌∷◌}
-use Rattle.lists.specs.Choice.{if◌then◌else◌}
+use Rattle.std.specs.Prelude.{if◌then◌else◌}
 
 unfoldable pub only : {A : Type 0} → (A → Bool) → List A → List A
 only p [] = []

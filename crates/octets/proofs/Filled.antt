@@ -1,7 +1,7 @@
 -- Filling a run piece by piece: the invariant of every loop that copies, clears or writes rows, and its laws. Assumes nothing.
 use Prim.Native.Nat.{ℕ, zero, suc, ◌+◌, ◌*◌, ◌≤◌, ◌<◌}
 use mathlib.Core.Path.{◌≡◌, refl, sym, ap, ◌∙◌}
-use mathlib.Core.Bool.{Bool, true, not}
+use mathlib.Core.Bool.{Bool, false}
 use mathlib.Core.List.{List, [], ◌∷◌, ◌++◌}
 use native.Mathlib.Omega.{arith}
 use native.Mathlib.Nat.{le_antisymm}
@@ -59,7 +59,7 @@ module _ {d : List ℕ} {at w : ℕ} {f : ℕ → List ℕ} {n : ℕ} where
 
 -- where the test finds no room for all pieces, nothing is written
 pub fill_refused : (d : List ℕ) (at w : ℕ) (f : ℕ → List ℕ) (n : ℕ) → ((k : ℕ) → length (f k) ≡ w)
-    → {r : Bool} {size : ℕ} → size ≡ w * n → r ≡ leb (at + size) (length d) → not r ≡ true → d ≡ put d at (joined f n)
+    → {r : Bool} {size : ℕ} → size ≡ w * n → r ≡ leb (at + size) (length d) → r ≡ false → d ≡ put d at (joined f n)
 fill_refused d at w f n each s e = put_refused d at (joined f n) _ _ e (length_joined f w each n ∙ sym s)
 
 -- ---- pieces of one element: the next element stored

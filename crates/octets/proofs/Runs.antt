@@ -1,7 +1,7 @@
 -- Laws of runs written into a longer run. Assumes nothing.
 use Prim.Native.Nat.{ℕ, ◌+◌, ◌-◌, ◌/◌, ◌%◌, ◌^◌, ◌≤◌, ◌<◌}
 use mathlib.Core.Path.{◌≡◌, sym, ap, ◌∙◌}
-use mathlib.Core.Bool.{Bool, true, not}
+use mathlib.Core.Bool.{Bool, false}
 use mathlib.Core.List.{List, [], ◌∷◌, ◌++◌, append_assoc, append-nil}
 use native.Mathlib.Omega.{arith}
 use native.Mathlib.Nat.{add-zero, add_assoc, mod-eq_of_lt, div-lt_iff_lt-mul}
@@ -15,7 +15,7 @@ use Rattle.octets.specs.Runs.{octets_at, put}
 use Rattle.octets.proofs.Numbers.{length_octets, octets_join, octets_low}
 use Rattle.octets.proofs.Parts.{length_part, part_take}
 use Rattle.lists.proofs.Tests.{split}
-use Rattle.octets.proofs.Tests.{no_room_lem}
+use Rattle.octets.proofs.Tests.{fits_not}
 
 -- writing with room, and without room
 pub put_fits : (d : List ℕ) (at : ℕ) (xs : List ℕ) → at + length xs ≤ length d → put d at xs ≡ take at d ++ xs ++ drop (at + length xs) d
@@ -110,9 +110,9 @@ pub put_both : (w : ℕ) (d : List ℕ) (at x : ℕ) (e f : List ℕ) → at + (
 put_both w d at x e f h p q = q ∙ ap (λ (r : List ℕ). put r (at + w) (octets_of w (x % 256 ^ w))) p ∙ put_halves w d at x h
 
 -- where the test finds no room, nothing is written
-pub put_refused : (d : List ℕ) (at : ℕ) (xs : List ℕ) (r : Bool) (size : ℕ) → r ≡ leb (at + size) (length d) → length xs ≡ size → not r ≡ true → d ≡ put d at xs
+pub put_refused : (d : List ℕ) (at : ℕ) (xs : List ℕ) (r : Bool) (size : ℕ) → r ≡ leb (at + size) (length d) → length xs ≡ size → r ≡ false → d ≡ put d at xs
 put_refused d at xs r size e l h =
-    let k : length d < at + size = no_room_lem (length d) at size r e h in
+    let k : length d < at + size = fits_not (length d) at size r e h in
     sym (put_no_room d at xs (omega arith))
 
 -- one element stored

@@ -1,11 +1,11 @@
 -- The test of room for octets in a run, and what the test says. Other tests are those of lists. Assumes nothing.
 use Prim.Native.Nat.{ℕ, ◌+◌, ◌-◌, ◌≤◌, ◌<◌}
-use mathlib.Core.Bool.{Bool, true, false, not}
+use mathlib.Core.Bool.{Bool, true, false}
 use mathlib.Core.Path.{◌≡◌, sym, ◌∙◌}
 use native.Mathlib.Nat.{zero-add}
 use native.Mathlib.Omega.{arith}
 use lib.Dec.{leb}
-use borrow.Author.Tests.{leb-true, leb-false, lt-leb, not-true, not-false}
+use borrow.Author.Tests.{leb-true, leb-false, lt-leb}
 use Rattle.lists.proofs.Tests.{leb_same}
 
 -- ---- the test of room for `size` octets at an offset in a run of `len`
@@ -24,13 +24,7 @@ module _ (len at size : ℕ) where
     pub fits_not : r ≡ false → len < at + size
     fits_not h = leb-false _ _ (sym e ∙ h)
 
-    pub has_room : not r ≡ false → at + size ≤ len
-    has_room h = fits (not-false r h)
-
-    pub no_room_lem : not r ≡ true → len < at + size
-    no_room_lem h = fits_not (not-true r h)
-
 -- the test of room at a run's start
 module _ (len size : ℕ) (r : Bool) (e : r ≡ leb (0 + size) len) where
-  pub has_room_first : not r ≡ false → size ≤ len
-  has_room_first h = rw (zero-add size) at (has_room len 0 size r e h)
+  pub fits_first : r ≡ true → size ≤ len
+  fits_first h = rw (zero-add size) at (fits len 0 size r e h)

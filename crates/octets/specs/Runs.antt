@@ -2,7 +2,7 @@
 -- a write leaves in lent room. Document 01 has no rule of its own for these; an octet past the end counts as 0, and a
 -- write without room leaves the run unchanged.
 use Rattle.std.specs.Prelude.{ℕ, zero, suc, ◌+◌, List, [], ◌∷◌, ◌++◌, length, get_or, take, drop, leb}
-use Rattle.lists.specs.Choice.{if◌then◌else◌}
+use Rattle.std.specs.Prelude.{if◌then◌else◌}
 
 -- the w octets from an offset on; an octet past the end counts as 0
 unfoldable pub octets_at : ℕ → List ℕ → ℕ → List ℕ

@@ -1,11 +1,11 @@
 -- Laws of the answer from the words of a link's memory, and of what the answer leaves. Assumes nothing.
 use Prim.Native.Nat.{ℕ, ◌+◌, ◌*◌, ◌≤◌, ◌<◌}
-use mathlib.Core.Bool.{Bool, true, false, not, false≢true}
+use mathlib.Core.Bool.{Bool, true, false, false≢true}
 use mathlib.Core.List.{List}
 use mathlib.Core.Path.{◌≡◌, refl, sym, ap, ap₂, ◌∙◌}
 use native.Mathlib.Omega.{arith}
 use lib.ListN.{length}
-use borrow.Author.Tests.{not-true, not-false}
+use borrow.Author.Tests.{not-false}
 use Rattle.rows.specs.Rows.{table_of, found_in}
 use Rattle.rows.specs.declared.Found.{Found}
 use Rattle.rows.specs.declared.Found.TheVariants.{At, Nowhere}
@@ -67,15 +67,15 @@ module _ (r : List ℕ) (j : ℕ) (f : Arrival) where
 
   module _ (a : Reception) where
     module _ (t : Bool) (w : t ≡ taken a) where
-      pub left_refused : not t ≡ true → r ≡ memory_after r j f a
-      left_refused q = sym (refused_leaves r j f a (sym w ∙ not-true t q))
+      pub left_refused : t ≡ false → r ≡ memory_after r j f a
+      left_refused q = sym (refused_leaves r j f a (sym w ∙ q))
 
-      module _ (q : not t ≡ false) where
+      module _ (q : t ≡ true) where
         pub never_unknown : a ≡ UnknownLink → (e : List ℕ) → e ≡ memory_after r j f a
-        never_unknown z e = absurd (false≢true (ap taken (sym z) ∙ sym w ∙ not-false t q))
+        never_unknown z e = absurd (false≢true (ap taken (sym z) ∙ sym w ∙ q))
 
         pub never_late : a ≡ Late → (e : List ℕ) → e ≡ memory_after r j f a
-        never_late z e = absurd (false≢true (ap taken (sym z) ∙ sym w ∙ not-false t q))
+        never_late z e = absurd (false≢true (ap taken (sym z) ∙ sym w ∙ q))
 
     pub left_out : a ≡ OutOfSequence → (e : List ℕ) → e ≡ noted r j f → e ≡ memory_after r j f a
     left_out q e p = p ∙ ap (memory_after r j f) (sym q)

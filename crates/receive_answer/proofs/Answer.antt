@@ -1,10 +1,10 @@
 -- Laws of what is answered, case by case. Assumes nothing.
 use Prim.Native.Nat.{ℕ, ◌-◌, ◌≤◌, ◌<◌}
-use mathlib.Core.Bool.{Bool, true, false, not}
+use mathlib.Core.Bool.{Bool, true, false}
 use mathlib.Core.Option.{Option, none, some}
 use mathlib.Core.Path.{◌≡◌, refl, sym, ap, ◌∙◌}
 use lib.Dec.{leb, ltb}
-use borrow.Author.Tests.{lt-ltb, le-ltb, le-leb, ltb-true, ltb-false, eq-eqb, ne_eqb, not-true, not-false}
+use borrow.Author.Tests.{lt-ltb, le-ltb, le-leb, ltb-true, ltb-false, eq-eqb, ne_eqb}
 use Rattle.lists.proofs.Tests.{split}
 use Rattle.receive_sequence.specs.Sequence.{passes}
 use Rattle.receive_answer.specs.Answer.{delivery_of, in_skew, reception_by}
@@ -43,18 +43,18 @@ module _ (skew time : ℕ) (number delivery : Option ℕ) (n t : ℕ) where
   reception_late h = simp (lt-ltb _ _ h)
 
   module _ (h : time ≤ t) (p : Bool) (e : p ≡ passes number n) where
-    pub reception_out : not p ≡ true → OutOfSequence ≡ reception_by skew time number delivery n t
+    pub reception_out : p ≡ false → OutOfSequence ≡ reception_by skew time number delivery n t
     unfolding reception_by
-    reception_out q = simp (le-ltb _ _ h, sym e ∙ not-true p q)
+    reception_out q = simp (le-ltb _ _ h, sym e ∙ q)
 
-    module _ (q : not p ≡ false) (s : Bool) (f : s ≡ in_skew skew delivery t) where
+    module _ (q : p ≡ true) (s : Bool) (f : s ≡ in_skew skew delivery t) where
       pub reception_copy : s ≡ true → Copy ≡ reception_by skew time number delivery n t
       unfolding reception_by
-      reception_copy z = simp (le-ltb _ _ h, sym e ∙ not-false p q, sym f ∙ z)
+      reception_copy z = simp (le-ltb _ _ h, sym e ∙ q, sym f ∙ z)
 
       pub reception_delivered : s ≡ false → Delivered ≡ reception_by skew time number delivery n t
       unfolding reception_by
-      reception_delivered z = simp (le-ltb _ _ h, sym e ∙ not-false p q, sym f ∙ z)
+      reception_delivered z = simp (le-ltb _ _ h, sym e ∙ q, sym f ∙ z)
 
 -- case analysis of the answer
 pub by_reception : (skew time : ℕ) (number delivery : Option ℕ) (n t : ℕ) (P : Reception → Type 0)

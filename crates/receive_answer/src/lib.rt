@@ -6,14 +6,14 @@ ghost use Rattle.std.specs.Prelude.{◌≡◌};
 ghost use Rattle.receive_sequence.specs.Sequence.{number_of};
 ghost use Rattle.receive_answer.specs.Answer.{other, delivery_of, reception_code, taken, in_skew, reception_by};
 
-#[derive(Drop)]
+#[derive(Clone, Copy)]
 pub enum Network {
     A,
     B,
 }
 
 // A frame that comes in; its time is in microseconds.
-#[derive(Drop)]
+#[derive(Clone, Copy)]
 pub struct Arrival {
     pub link: u16,
     pub network: Network,
@@ -22,7 +22,7 @@ pub struct Arrival {
 }
 
 // The answer to a frame: delivered, the copy of a frame that was delivered, out of sequence, or a refusal, 4 or 8.
-#[derive(Drop)]
+#[derive(Clone, Copy)]
 pub enum Reception {
     Delivered,
     Copy,

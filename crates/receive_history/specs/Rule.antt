@@ -2,7 +2,7 @@
 -- frames before it with their answers. The rule reads no memory.
 use Rattle.std.specs.Prelude.{ℕ, Bool, true, false, ◌&&◌, List, [], ◌∷◌, eqb}
 use Rattle.std.proofs.Math.Option.{Option, none, some}
-use Rattle.lists.specs.Choice.{if◌then◌else◌}
+use Rattle.std.specs.Prelude.{if◌then◌else◌}
 use Rattle.lists.specs.History.{Machine, answers, by_answers}
 use Rattle.lists.specs.Lists.{only}
 use Rattle.rows.specs.declared.Found.{Found}

@@ -1,7 +1,7 @@
 -- Sequence numbers and integrity (document 02, Q-1; ARINC 664P7, 3.2.6.1 and 3.2.6.2.1).
 use Rattle.std.specs.Prelude.{ℕ, ◌+◌, ◌-◌, Bool, true, ◌||◌, eqb}
 use Rattle.std.proofs.Math.Option.{Option, none, some}
-use Rattle.lists.specs.Choice.{if◌then◌else◌}
+use Rattle.std.specs.Prelude.{if◌then◌else◌}
 
 -- how many sequence numbers there are, and the greatest; they are octets
 abbrev pub number_count : ℕ

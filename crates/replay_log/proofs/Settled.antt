@@ -1,7 +1,7 @@
 -- What stands at an offset of a log is settled by the octets from there on. Assumes nothing.
 use Prim.Native.Nat.{ℕ, ◌+◌, ◌-◌, ◌^◌, ◌≤◌, ◌<◌}
 use mathlib.Core.Path.{◌≡◌, refl, sym, ap, ap₂, ◌∙◌}
-use mathlib.Core.Bool.{Bool, true, false, not}
+use mathlib.Core.Bool.{Bool, true, false}
 use mathlib.Core.List.{List, ◌++◌}
 use native.Mathlib.Omega.{arith}
 use native.Mathlib.Nat.{add_assoc}
@@ -38,8 +38,8 @@ module _ (s : List ℕ) (at : ℕ) (w : Bool) (P : Type 0) where
       (λ e. let a = ltb-true _ _ e in f a (logged_short s at w (length_at s at) refl a))
       (λ e. let a : time_and_port_octets ≤ length_at s at = ltb-false _ _ e in
       split (leb (at + (tag_and_length + length_at s at)) (length s))
-      (λ d. h a (leb-true _ _ d) (logged_frame s at w (length_at s at) refl a _ refl _ _ (ap not d) refl refl))
-      (λ d. g a (leb-false _ _ d) (logged_open s at w (length_at s at) refl a _ refl _ (ap not d) refl)))
+      (λ d. h a (leb-true _ _ d) (logged_frame s at w (length_at s at) refl a _ refl _ _ d refl refl))
+      (λ d. g a (leb-false _ _ d) (logged_open s at w (length_at s at) refl a _ refl _ d refl)))
 
   by_next : (length s ≤ at → P)
       → (at < length s → (get_or s at 0 ≡ record_tag → ⊥) → Cut ≡ next_in s at w → P)
@@ -53,8 +53,8 @@ module _ (s : List ℕ) (at : ℕ) (w : Bool) (P : Type 0) where
       split (eqb (get_or s at 0) record_tag)
       (λ d. let b : get_or s at 0 ≡ record_tag = eqb-true _ _ d in
       split (leb (at + tag_and_length) (length s))
-      (λ c. k a b (leb-true _ _ c) (next_logged s at w a _ refl b _ refl _ (ap not c) refl))
-      (λ c. h a b (leb-false _ _ c) (next_open s at w a _ refl b _ refl _ (ap not c) refl)))
+      (λ c. k a b (leb-true _ _ c) (next_logged s at w a _ refl b _ refl _ c refl))
+      (λ c. h a b (leb-false _ _ c) (next_open s at w a _ refl b _ refl _ c refl)))
       (λ d. let b = eqb-false _ _ d in g a b (next_tag s at w a _ refl b)))
 
 never : {A : Type 0} {e : Entry} → Cut ≡ e → e ≡ More → A

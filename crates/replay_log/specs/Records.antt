@@ -1,6 +1,6 @@
 -- The records of a log of frames, tagged fields (document 01, "The replay program", `rig.frames`).
 use Rattle.std.specs.Prelude.{ℕ, ◌+◌, ◌-◌, Bool, not, List, length, get_or, leb, ltb, eqb}
-use Rattle.lists.specs.Choice.{if◌then◌else◌}
+use Rattle.std.specs.Prelude.{if◌then◌else◌}
 use Rattle.octets.specs.Numbers.{number_at}
 use Rattle.fields.specs.Fields.{tag_and_length, length_at, field_at}
 use Rattle.replay_log.specs.declared.FrameRecord.{FrameRecord}

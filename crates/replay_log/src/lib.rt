@@ -31,7 +31,7 @@ pub fn longest_record() -> usize
 }
 
 // A frame that a log holds: its time and port, `size` octets from `start` on, and the offset after them.
-#[derive(Drop)]
+#[derive(Clone, Copy)]
 pub struct FrameRecord {
     pub time: u64,
     pub port: u8,
@@ -41,7 +41,7 @@ pub struct FrameRecord {
 }
 
 // What stands at an offset of a log.
-#[derive(Drop)]
+#[derive(Clone, Copy)]
 pub enum Entry {
     Frame(FrameRecord),
     // Too few octets at hand to say.

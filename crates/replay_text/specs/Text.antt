@@ -1,5 +1,5 @@
 -- The lines of a replay, as characters (document 01, "The replay program" and case 14 of its bench sheet).
-use Rattle.std.specs.Prelude.{ℕ, ◌+◌, List, [], ◌∷◌, ◌++◌}
+use Rattle.std.specs.Prelude.{ℕ, List, [], ◌∷◌, ◌++◌}
 use Rattle.std.proofs.Math.Option.{Option, none, some}
 use Rattle.switch_verdict.specs.Verdict.{Report}
 use Rattle.replay_words.specs.Words.{word_of}

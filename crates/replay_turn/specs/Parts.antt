@@ -1,7 +1,7 @@
 -- How a replay begins, what a turn does at one record, and what is kept between turns (document 01, "The replay program").
 use Rattle.std.specs.Prelude.{ℕ, ◌-◌, min, List, length, eqb}
 use Rattle.codes.specs.Codes
-use Rattle.lists.specs.Choice.{if◌then◌else◌}
+use Rattle.std.specs.Prelude.{if◌then◌else◌}
 use Rattle.octets.specs.Runs.{octets_at, put}
 use Rattle.tables.specs.Rows.{Config}
 use Rattle.switch.specs.Call.{State, Call, called}

@@ -2,7 +2,7 @@
 -- and a replay as a machine, turn after turn.
 use Rattle.std.specs.Prelude.{ℕ, suc, Bool, true, false, drop}
 use mathlib.Core.List.{List, [], ◌∷◌, ◌++◌, flat_map, flatten}
-use Rattle.lists.specs.Choice.{if◌then◌else◌}
+use Rattle.std.specs.Prelude.{if◌then◌else◌}
 use Rattle.lists.specs.History
 use Rattle.lists.specs.History.{Machine}
 use Rattle.tables.specs.Rows.{Config}

@@ -1,7 +1,7 @@
 -- One turn of a replay (document 01, "The replay program"): the records at hand answered, each with its line, as far as octets
 -- and room allow.
 use Rattle.std.specs.Prelude.{ℕ, zero, suc, ◌-◌, ◌/◌, ◌^◌, Bool, List, [], ◌++◌, length, leb}
-use Rattle.lists.specs.Choice.{if◌then◌else◌}
+use Rattle.std.specs.Prelude.{if◌then◌else◌}
 use Rattle.octets.specs.Runs.{put}
 use Rattle.tables.specs.Rows.{Config}
 use Rattle.switch.specs.Call.{State, called}

@@ -15,7 +15,7 @@ use replay_log::{Entry, FrameRecord};
 use tables::Settings;
 
 // Why a replay stops where it stands.
-#[derive(Drop)]
+#[derive(Clone, Copy)]
 pub enum Stop {
     // More octets of the log are to be read.
     Octets,
@@ -40,7 +40,7 @@ pub fn is_over(stop: Stop) -> bool
 }
 
 // Where a replay stands: its offset in the octets at hand, the frames answered, the characters put into the room, why it stops.
-#[derive(Drop)]
+#[derive(Clone, Copy)]
 pub struct Progress {
     pub at: usize,
     pub frames: u64,

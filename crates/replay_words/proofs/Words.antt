@@ -1,7 +1,7 @@
 -- Laws of words and lines written one after the other. Assumes nothing.
 use Prim.Native.Nat.{ℕ, ◌+◌, ◌^◌, ◌≤◌, ◌<◌}
 use mathlib.Core.Path.{◌≡◌, sym, ap, ap₂, ◌∙◌}
-use mathlib.Core.Bool.{Bool, true, false, not}
+use mathlib.Core.Bool.{Bool, true, false}
 use mathlib.Core.List.{List, [], ◌∷◌, ◌++◌}
 use native.Mathlib.Omega.{arith}
 use lib.Dec.{leb}
@@ -10,7 +10,7 @@ use borrow.Author.Tests.{le-leb, lt-leb}
 use Rattle.octets.specs.Runs.{octets_at, put}
 use Rattle.octets.proofs.Runs.{put_no_room, put_after, put_next, length_put, get_d_put}
 use Rattle.octets.proofs.Parts.{length_part, part_is}
-use Rattle.octets.proofs.Tests.{has_room, no_room_lem}
+use Rattle.octets.proofs.Tests.{fits, fits_not}
 use Rattle.replay_words.specs.Digits.{digits_of, width_of}
 use Rattle.replay_words.specs.Words.{word_of, Appended, appended_of, appended, next_offset}
 use Rattle.replay_words.proofs.Decimal.{length_digits, width_most, width_below}
@@ -36,14 +36,14 @@ module _ (d : List ℕ) (at : ℕ) (s : List ℕ) (n : ℕ) (e : List ℕ) (f : 
 
   pub part_appended : b ≡ true → appended_of (at + n) e ≡ appended d at (octets_at n s 0)
   part_appended h =
-      let r : at + n ≤ length e = has_room (length e) at n b g (ap not h) in
+      let r : at + n ≤ length e = fits (length e) at n b g h in
       let z = size in
       let y = same in
       ap (λ (i : ℕ). appended_of (at + i) e) (sym z) ∙ appended_there d at (octets_at n s 0) e (omega arith) f
 
   pub part_not : b ≡ false → appended_of at e ≡ appended d at (octets_at n s 0)
   part_not h =
-      let r : length e < at + n = no_room_lem (length e) at n b g (ap not h) in
+      let r : length e < at + n = fits_not (length e) at n b g h in
       let z = size in
       let y = same in
       appended_not d at (octets_at n s 0) e (omega arith) f

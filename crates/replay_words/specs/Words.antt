@@ -1,6 +1,6 @@
 -- The words of a text, as characters, and what appending them to a room leaves (document 01, "The replay program").
 use Rattle.std.specs.Prelude.{ℕ, ◌+◌, List, [], ◌∷◌, ◌++◌, length, leb}
-use Rattle.lists.specs.Choice.{if◌then◌else◌}
+use Rattle.std.specs.Prelude.{if◌then◌else◌}
 use Rattle.octets.specs.Runs.{put}
 use Rattle.replay_words.specs.Digits.{decimal_of}
 

@@ -1,7 +1,7 @@
 -- Rows at equal distances in a run of octets: where a row stands, and the first row in use that has a number. The rows of
 -- accounts and links (document 01, "The configuration image") and those of a receiving end (document 02, Q-1) are such rows.
 use Rattle.std.specs.Prelude.{ℕ, ◌+◌, ◌*◌, ◌/◌, min, Bool, not, List, ltb, eqb}
-use Rattle.lists.specs.Choice.{if◌then◌else◌}
+use Rattle.std.specs.Prelude.{if◌then◌else◌}
 use Rattle.lists.specs.Leading.{leading}
 use Rattle.octets.specs.Numbers.{number_at}
 use Rattle.octets.specs.Runs.{octets_at}

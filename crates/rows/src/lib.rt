@@ -10,14 +10,14 @@ ghost use Rattle.rows.specs.Rows.{number_octets, table_of, in_use, found_in};
 pub const NUMBER_OCTETS: usize = 2;
 
 // The spacing of rows in a run: the offset of the first row, and the distance from one row to the next.
-#[derive(Drop)]
+#[derive(Clone, Copy)]
 pub struct Spacing {
     pub first: usize,
     pub step: u8,
 }
 
 // The row that has a number, if there is such a row.
-#[derive(Drop)]
+#[derive(Clone, Copy)]
 pub enum Found {
     At(usize),
     Nowhere,

@@ -1,6 +1,6 @@
 -- Laws of the frame call, case by case as the code goes through the call. Assumes nothing.
 use Prim.Native.Nat.{ℕ, ◌+◌, ◌-◌, ◌*◌, ◌/◌, ◌≤◌, ◌<◌}
-use mathlib.Core.Bool.{Bool, true, false, not, ◌&&◌}
+use mathlib.Core.Bool.{Bool, true, false, ◌&&◌}
 use mathlib.Core.List.{List}
 use mathlib.Core.Path.{◌≡◌, refl, sym, ap, ◌∙◌}
 use native.Mathlib.Nat.{zero-add, mul_comm, div-mul-le_self}
@@ -8,7 +8,7 @@ use native.Mathlib.Omega.{arith}
 use lib.ListN.{length, get_or, set, take, drop}
 use lib.Seq.{set-get_or}
 use lib.Dec.{eqb}
-use borrow.Author.Tests.{eq-eqb, ne_eqb, eqb-true, eqb-false, not-true, not-false}
+use borrow.Author.Tests.{eq-eqb, ne_eqb, eqb-true, eqb-false}
 use Rattle.lists.proofs.Tests.{split}
 use Rattle.frame.specs.Frame.{length_code, link_number}
 use Rattle.terms.specs.declared.Terms.{Terms}
@@ -66,19 +66,19 @@ held_again accounts s i = λ k. state_of (set-get_or s.credits i 0 k) (set-get_o
 
 -- ---- what is decided
 module _ (l : Link) (used : ℕ) (a : Account) (n port t : ℕ) (r : Bool) (e : r ≡ link_sound l used a.terms.smax) where
-  pub decided_link : not r ≡ true → (d : Decided) → d ≡ kept 10 a → d ≡ decided l used a n port t
+  pub decided_link : r ≡ false → (d : Decided) → d ≡ kept 10 a → d ≡ decided l used a n port t
   unfolding decided
-  decided_link h d q = q ∙ simp (← e, not-true r h)
+  decided_link h d q = q ∙ simp (← e, h)
 
-  module _ (h : not r ≡ false) (c : ℕ) (f : c ≡ capacity_of a) where
+  module _ (h : r ≡ true) (c : ℕ) (f : c ≡ capacity_of a) where
     pub decided_account : c ≡ 0 → (d : Decided) → d ≡ kept 10 a → d ≡ decided l used a n port t
     unfolding decided
-    decided_account z d q = q ∙ simp (← e, not-false r h, none_unsound a c f z)
+    decided_account z d q = q ∙ simp (← e, h, none_unsound a c f z)
 
     module _ (z : c ≡ 0 → ⊥) (x : ℕ) (p : x ≡ port_code l n port) where
       pub decided_port : (x ≡ 0 → ⊥) → (d : Decided) → d ≡ kept x a → d ≡ decided l used a n port t
       unfolding decided
-      decided_port m d q = q ∙ simp (← e, not-false r h, some_sound a c f z, p, ne_eqb (port_code l n port) 0 (rw p at m))
+      decided_port m d q = q ∙ simp (← e, h, some_sound a c f z, p, ne_eqb (port_code l n port) 0 (rw p at m))
 
       -- the decision with the cost y in hand
       pub decided_step : x ≡ 0 → length_code n ≡ 0 → (y : ℕ) → y ≡ checked_cost (terms_of a) n → (s : Stepped) → s ≡ judged_at a c y t
@@ -87,7 +87,7 @@ module _ (l : Link) (used : ℕ) (a : Account) (n port t : ℕ) (r : Bool) (e : 
       unfolding decided
       decided_step m k y g s u w v =
           let q : s ≡ policed a n t = u ∙ police_judged a n t k (some_sound a c f z) c y (some_capacity a c f z) g in
-          simp (v, q, ← e, not-false r h, some_sound a c f z, eq-eqb (port_code l n port) 0 (sym p ∙ m))
+          simp (v, q, ← e, h, some_sound a c f z, eq-eqb (port_code l n port) 0 (sym p ∙ m))
 
 -- the decision for an unsound link or an unsound account
 pub decided_unsound : (l : Link) (used : ℕ) (a : Account) (n port t : ℕ) → (link_sound l used a.terms.smax && account_sound a) ≡ false → decided l used a n port t ≡ kept 10 a

@@ -2,7 +2,7 @@
 -- call, for any tables, counts, frame, port and time whatsoever.
 use Rattle.std.specs.Prelude.{ℕ, ◌/◌, min, not, ◌&&◌, List, length, get_or, set, eqb}
 use Rattle.codes.specs.Codes
-use Rattle.lists.specs.Choice.{if◌then◌else◌}
+use Rattle.std.specs.Prelude.{if◌then◌else◌}
 use Rattle.account.specs.Account.{account_of, account_sound}
 use Rattle.account.specs.Step.{Stepped, policed}
 use Rattle.account.specs.declared.Account.{Account}

@@ -13,14 +13,14 @@ use switch_verdict::Verdict;
 use tables::{Link, Settings};
 
 // How a frame came in: the port, and the time in microseconds.
-#[derive(Drop)]
+#[derive(Clone, Copy)]
 pub struct Ingress {
     pub port: u32,
     pub time: u64,
 }
 
 // A verdict, with the account's credit and last time after the call.
-#[derive(Drop)]
+#[derive(Clone, Copy)]
 struct Decision {
     verdict: Verdict,
     credit: u32,

@@ -2,7 +2,7 @@
 use Rattle.std.specs.Prelude.{ℕ, eqb}
 use Rattle.std.proofs.Math.Option.{Option, none, some}
 use Rattle.codes.specs.Codes
-use Rattle.lists.specs.Choice.{if◌then◌else◌}
+use Rattle.std.specs.Prelude.{if◌then◌else◌}
 use Rattle.account.specs.Step.{StepReport}
 use Rattle.switch_verdict.specs.declared.Verdict.{Verdict}
 use Rattle.switch_verdict.specs.declared.Verdict.TheVariants.{Forwarded, Short, Late, Refused}

@@ -9,7 +9,7 @@ use account::Outcome;
 
 // The answer of a frame call: forwarded with the output ports and the credit left, short or late with the credit held,
 // or refused with its code.
-#[derive(Drop)]
+#[derive(Clone, Copy)]
 pub enum Verdict {
     Forwarded { mask: u32, credit: u32 },
     Short(u32),

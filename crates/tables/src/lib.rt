@@ -15,7 +15,7 @@ pub const ACCOUNT_OCTETS: usize = 6;
 pub const LINK_OCTETS: usize = 13;
 
 // A virtual link: number, input port, mask of output ports (the low bit is port 0), frame sizes, account.
-#[derive(Drop)]
+#[derive(Clone, Copy)]
 pub struct Link {
     pub number: u16,
     pub port: u8,
@@ -27,7 +27,7 @@ pub struct Link {
 
 // The settings of a switch, which loading an image answers and a frame call takes: the constant field, and how many
 // accounts and links the image named.
-#[derive(Drop)]
+#[derive(Clone, Copy)]
 pub struct Settings {
     pub constant: u32,
     pub accounts: usize,
@@ -35,7 +35,7 @@ pub struct Settings {
 }
 
 // The link with a number, if there is such a link.
-#[derive(Drop)]
+#[derive(Clone, Copy)]
 pub enum Lookup {
     Present(Link),
     Absent,

@@ -1,10 +1,10 @@
 -- Laws of the value rules, test by test as the code makes the tests, and over rows with the same octets. Assumes
 -- nothing.
 use Prim.Native.Nat.{ℕ, min, ◌+◌, ◌*◌, ◌-◌, ◌/◌, ◌%◌, ◌^◌, ◌≤◌, ◌<◌}
-use mathlib.Core.Bool.{Bool, true, false, not, ◌&&◌}
+use mathlib.Core.Bool.{Bool, true, false, ◌&&◌}
 use mathlib.Core.Path.{◌≡◌, sym, ap, ap₂, ◌∙◌}
 use lib.Dec.{ltb, leb, eqb}
-use borrow.Author.Tests.{lt-ltb, le-ltb, ltb-true, ltb-false, leb-true, le-leb, lt-leb, eq-eqb, ne_eqb, not-true, not-false}
+use borrow.Author.Tests.{lt-ltb, le-ltb, ltb-true, ltb-false, leb-true, le-leb, lt-leb, eq-eqb, ne_eqb}
 use Rattle.lists.proofs.Tests.{split, both}
 use Rattle.frame.specs.Limits.{smallest_frame}
 use lib.ListN.{length}
@@ -55,13 +55,13 @@ module _ (l : Link) (n smax : ℕ) where
   account_past h = simp (le-ltb _ _ h)
 
   module _ (h : l.account < n) (r : Bool) (e : r ≡ ports_sound l.port l.mask) where
-    pub ports_bad : not r ≡ true → false ≡ link_sound l n smax
+    pub ports_bad : r ≡ false → false ≡ link_sound l n smax
     unfolding link_sound
-    ports_bad q = simp (lt-ltb _ _ h, ← e, not-true r q)
+    ports_bad q = simp (lt-ltb _ _ h, ← e, q)
 
-    pub sizes_left : not r ≡ false → (z : Bool) → z ≡ sizes_sound l.smallest l.largest smax → z ≡ link_sound l n smax
+    pub sizes_left : r ≡ true → (z : Bool) → z ≡ sizes_sound l.smallest l.largest smax → z ≡ link_sound l n smax
     unfolding link_sound
-    sizes_left q z f = f ∙ simp (lt-ltb _ _ h, ← e, not-false r q)
+    sizes_left q z f = f ∙ simp (lt-ltb _ _ h, ← e, q)
 
   -- what holds of a sound link
   pub sound_account : link_sound l n smax ≡ true → l.account < n
@@ -126,19 +126,19 @@ unfolding number_rises
 rises_first l j e = simp (eq-eqb _ _ e)
 
 module _ (a l : Rows) (n j : ℕ) (r : Bool) (e : r ≡ number_rises l j) where
-  pub link_falls : not r ≡ true → false ≡ link_good a l n j
+  pub link_falls : r ≡ false → false ≡ link_good a l n j
   unfolding link_good
-  link_falls h = simp (← e, not-true r h)
+  link_falls h = simp (← e, h)
 
   -- a link row by the link and the Smax of its account in hand
-  pub link_values : not r ≡ false → (k : Link) (x : ℕ) (z : Bool) → k ≡ link_in l j → x ≡ (account_in a k.account).smax → z ≡ link_sound k n x
+  pub link_values : r ≡ true → (k : Link) (x : ℕ) (z : Bool) → k ≡ link_in l j → x ≡ (account_in a k.account).smax → z ≡ link_sound k n x
       → z ≡ link_good a l n j
   unfolding link_good
   link_values h k x z m u v =
       v ∙ ap (link_sound k n) u
       ∙ ap (λ (b : Link). link_sound b n (account_in a b.account).smax) m
-      ∙ simp (← e, not-false r h)
+      ∙ simp (← e, h)
 
-  pub link_row_lem : not r ≡ false → (at : ℕ) (k : Link) (x : ℕ) (z : Bool) → at ≡ min l.first (length l.octets) + l.step * j → k ≡ link_at l.octets at
+  pub link_row_lem : r ≡ true → (at : ℕ) (k : Link) (x : ℕ) (z : Bool) → at ≡ min l.first (length l.octets) + l.step * j → k ≡ link_at l.octets at
       → x ≡ (account_in a k.account).smax → z ≡ link_sound k n x → z ≡ link_good a l n j
   link_row_lem h at k x z f g = link_values h k x z (g ∙ link_near l.octets l.first (l.step * j) at f)

@@ -2,7 +2,7 @@
 -- Reading and writing an image answer 23 by `account_good` and `link_good`; code 10 of a frame call is about the same rows,
 -- whatever their order.
 use Rattle.std.specs.Prelude.{ℕ, ◌-◌, ◌/◌, ◌%◌, ◌^◌, Bool, true, not, ◌&&◌, ltb, leb, eqb}
-use Rattle.lists.specs.Choice.{if◌then◌else◌}
+use Rattle.std.specs.Prelude.{if◌then◌else◌}
 use Rattle.frame.specs.Limits.{smallest_frame}
 use Rattle.terms.specs.Terms.{terms_good}
 use Rattle.rows.specs.Rows.{Rows}

@@ -1,10 +1,10 @@
 -- Laws of the methods of an account's values: by the limits, and as the code takes the products. Assumes nothing.
 use Prim.Native.Nat.{ℕ, ◌+◌, ◌*◌, ◌^◌, ◌≤◌, ◌<◌}
-use mathlib.Core.Bool.{Bool, true, false, not}
+use mathlib.Core.Bool.{Bool, true, false}
 use mathlib.Core.Path.{◌≡◌, sym, ◌∙◌}
 use native.Mathlib.Omega.{arith}
 use lib.Dec.{eqb}
-use borrow.Author.Tests.{eq-eqb, eqb-true, not-true, not-false}
+use borrow.Author.Tests.{eq-eqb, eqb-true}
 use Rattle.frame.specs.Limits.{largest_frame}
 use Rattle.frame.specs.Frame.{length_code}
 use Rattle.frame.proofs.Frame.{within}
@@ -23,17 +23,17 @@ module _ (p : Terms) where
 
 -- t is whether the values keep their limits, b the BAG, s whether a frame can have n octets
 module _ (p : Terms) (t : Bool) (e : t ≡ terms_good p) where
-  pub none_full : not t ≡ true → 0 ≡ checked_capacity p
+  pub none_full : t ≡ false → 0 ≡ checked_capacity p
   unfolding checked_capacity
-  none_full h = simp (← e, not-true t h)
+  none_full h = simp (← e, h)
 
-  pub none_charged : not t ≡ true → (n : ℕ) → 0 ≡ checked_cost p n
+  pub none_charged : t ≡ false → (n : ℕ) → 0 ≡ checked_cost p n
   unfolding checked_cost
-  none_charged h n = simp (← e, not-true t h)
+  none_charged h n = simp (← e, h)
 
-  module _ (h : not t ≡ false) where
+  module _ (h : t ≡ true) where
     tested : terms_good p ≡ true
-    tested = sym e ∙ not-false t h
+    tested = sym e ∙ h
 
     pub limits_tested : Limits p
     limits_tested = limits p tested
@@ -52,13 +52,13 @@ module _ (p : Terms) (t : Bool) (e : t ≡ terms_good p) where
         full_fits = omega (arith, full_given, capacity_kept p tested, capacity_high p limits_tested)
 
     module _ (n : ℕ) (s : Bool) (z : s ≡ eqb (length_code n) 0) where
-      pub no_frame : not s ≡ true → 0 ≡ checked_cost p n
+      pub no_frame : s ≡ false → 0 ≡ checked_cost p n
       unfolding checked_cost
-      no_frame k = simp (tested, ← z, not-true s k)
+      no_frame k = simp (tested, ← z, k)
 
-      module _ (k : not s ≡ false) where
+      module _ (k : s ≡ true) where
         framed : length_code n ≡ 0
-        framed = eqb-true _ _ (sym z ∙ not-false s k)
+        framed = eqb-true _ _ (sym z ∙ k)
 
         pub frame_high : n ≤ largest_frame
         frame_high = (within n framed).1

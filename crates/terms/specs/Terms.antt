@@ -2,7 +2,7 @@
 -- (document 01, "Accounts and links" and "Credit, in whole units"; document 02, Q-3).
 use Rattle.std.specs.Prelude.{ℕ, ◌+◌, ◌*◌, ◌^◌, Bool, ◌&&◌, ◌||◌, leb, eqb}
 use Rattle.codes.specs.Codes
-use Rattle.lists.specs.Choice.{if◌then◌else◌}
+use Rattle.std.specs.Prelude.{if◌then◌else◌}
 use Rattle.frame.specs.Limits.{smallest_frame, largest_frame}
 use Rattle.frame.specs.Frame.{length_code}
 use Rattle.terms.specs.declared.Terms.{Terms}

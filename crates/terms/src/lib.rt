@@ -25,7 +25,7 @@ const LINE_FRAME_MODE: u8 = 3;
 const LINE_OCTETS: u32 = 20;
 
 // The values of an account: Smax in octets, k of a BAG of 2^k milliseconds, jitter in microseconds, mode.
-#[derive(Drop)]
+#[derive(Clone, Copy)]
 pub struct Terms {
     pub smax: u16,
     pub jitter: u16,

@@ -2,7 +2,7 @@
 use Prim.Native.Nat.{◌+◌, ◌≤◌}
 use native.Mathlib.Omega.{arith}
 use lib.ListN.{length}
-use Rattle.octets.proofs.Tests.{has_room, no_room_lem}
+use Rattle.octets.proofs.Tests.{fits, fits_not}
 use Rattle.fields.specs.Fields.{tag_and_length}
 use Rattle.fields.proofs.Fields.{stands_not, stands_other, stands_tested}
 use borrow.Author.Rules.{rules}
@@ -11,10 +11,10 @@ use Rattle.fields.proofs.stands.Goals.{Else-not-has_room}
 
 -- the whole field is there after the first test
 whole : (c : Else-not-has_room) → c.args.at + (tag_and_length + c.args.size) ≤ length c.args.run.now
-whole c = has_room _ _ _ _ c.has_room.ensures c.if-not-has_room.false
+whole c = fits _ _ _ _ c.has_room.ensures c.if-not-has_room.false
 
 pub returns-then-not-has_room : goal.returns-then-not-has_room
-returns-then-not-has_room c = stands_not _ _ _ _ (no_room_lem _ _ _ _ c.has_room.ensures c.if-not-has_room.true)
+returns-then-not-has_room c = stands_not _ _ _ _ (fits_not _ _ _ _ c.has_room.ensures c.if-not-has_room.true)
 
 pub returns-then-octet_at-tag : goal.returns-then-octet_at-tag
 returns-then-octet_at-tag c = stands_other _ _ _ _ (whole (goal.at.returns-then-octet_at-tag c).Else-not-has_room) _ c.octet_at.ensures c.if-octet_at-tag.true

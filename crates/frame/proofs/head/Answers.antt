@@ -20,4 +20,4 @@ overflow_sub-n c = omega (arith, long (goal.at.overflow_sub-n c).Else-code-ne-SU
 
 pub returns : goal.returns
 returns c =
-    header_read _ _ c.length_code-code.ensures _ _ c.if-code-ne-SUCCESS.false c.link_number_lem.ensures c.octet_at.ensures
+    header_read _ _ c.length_code-code.ensures _ _ c.if-code-ne-SUCCESS.false c.link_number.ensures c.octet_at.ensures

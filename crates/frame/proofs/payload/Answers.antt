@@ -14,7 +14,9 @@ long : (c : Else-length_code-ne-SUCCESS) → smallest_frame ≤ length c.args.fr
 long c = long_enough_lem _ _ c.length_code.ensures c.if-length_code-ne-SUCCESS.false
 
 pub returns-then-length_code-ne-SUCCESS : goal.returns-then-length_code-ne-SUCCESS
-returns-then-length_code-ne-SUCCESS c = payload_refused _ _ c.length_code.ensures _ c.if-length_code-ne-SUCCESS.true
+returns-then-length_code-ne-SUCCESS c =
+    let p = payload_refused _ _ c.length_code.ensures c.args.frame.ref_ptr c.if-length_code-ne-SUCCESS.true in
+    record { contents = p.0; place = p.1 }
 
 pub overflow_sub-end : goal.overflow_sub-end
 overflow_sub-end c = omega (arith, long c)
@@ -26,4 +28,6 @@ pub slice_bounds-result-start-2 : goal.slice_bounds-result-start-2
 slice_bounds-result-start-2 c = omega (arith, long c)
 
 pub returns : goal.returns
-returns c = payload_read _ _ c.length_code.ensures _ c.if-length_code-ne-SUCCESS.false
+returns c =
+    let p = payload_read _ _ c.length_code.ensures c.args.frame.ref_ptr c.if-length_code-ne-SUCCESS.false in
+    record { contents = p.0; place = p.1 }

@@ -8,6 +8,7 @@ use Rattle.octets.proofs.Parts.{get_d_from}
 use Rattle.octets.proofs.Filled.{Filled, octet_from, part_ones, fill_start, fill_one, fill_end}
 use borrow.Author.Rules.{rules}
 use Rattle.octets_write.proofs.copy_padded.Goals as goal
+use Rattle.octets_write.proofs.copy_padded.Goals.{After-least-start}
 
 pub loop-i-init : goal.loop-i-init
 loop-i-init c = fill_start (λ k. refl) (omega (arith, c.requires))
@@ -31,13 +32,9 @@ loop-i-smaller c = omega arith
 
 pub loop-i-preserved : goal.loop-i-preserved
 loop-i-preserved c =
-    let s = (goal.at.loop-i-preserved c).After-least-start in
     let l = c.loop-i in
     fill_one l.invariant c.loop-i-test.true refl
-    (get_d_from s.before.before.before.args.from.now _ l.i s.least.ensures c.octet_at.ensures)
-
-pub UNKNOWN-same-length : goal.UNKNOWN-same-length
-UNKNOWN-same-length c = c.loop-i.invariant.long
+    (get_d_from c.args.from.now _ l.i c.least-start.ensures c.octet_at.ensures)
 
 pub returns : goal.returns
 returns c = search (fill_end, part_ones)

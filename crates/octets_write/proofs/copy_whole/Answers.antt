@@ -6,13 +6,13 @@ use Rattle.octets.proofs.Filled.{Filled, octet_from, part_ones, fill_start, fill
 use Rattle.octets_write.proofs.copy_whole.Goals as goal
 
 pub loop-i-init : goal.loop-i-init
-loop-i-init c = fill_start (λ k. refl) (omega (arith, c.requires.1))
+loop-i-init c = fill_start (λ k. refl) (omega (arith, c.requires.to_inside))
 
 pub overflow_add-to : goal.overflow_add-to
-overflow_add-to c = omega (arith, c.requires.0)
+overflow_add-to c = omega (arith, c.requires.from_inside)
 
 pub bounds-from-at : goal.bounds-from-at
-bounds-from-at c = omega (arith, c.requires.0)
+bounds-from-at c = omega (arith, c.requires.from_inside)
 
 pub overflow_add-to-in-loop-i : goal.overflow_add-to-in-loop-i
 overflow_add-to-in-loop-i c = omega arith
@@ -28,9 +28,6 @@ loop-i-smaller c = omega arith
 
 pub loop-i-preserved : goal.loop-i-preserved
 loop-i-preserved c = fill_one c.loop-i.invariant c.loop-i-test.true refl refl
-
-pub UNKNOWN-same-length : goal.UNKNOWN-same-length
-UNKNOWN-same-length c = c.loop-i.invariant.long
 
 pub returns : goal.returns
 returns c = search (fill_end, part_ones)

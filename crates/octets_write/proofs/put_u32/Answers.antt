@@ -5,13 +5,13 @@ use lib.ListN.{length}
 use borrow.Author.Rules.{rules}
 use Rattle.octets.proofs.Numbers.{length_octets}
 use Rattle.octets.proofs.Runs.{put_refused, put_both}
-use Rattle.octets.proofs.Tests.{has_room}
+use Rattle.octets.proofs.Tests.{fits}
 use Rattle.octets_write.proofs.put_u32.Goals as goal
 use Rattle.octets_write.proofs.put_u32.Goals.{Else-not-has_room}
 
 -- there is room after the test
 room : (c : Else-not-has_room) → c.args.at + 4 ≤ length c.args.to.now
-room c = has_room _ _ _ _ c.has_room.ensures c.if-not-has_room.false
+room c = fits _ _ _ _ c.has_room.ensures c.if-not-has_room.false
 
 pub returns-then-not-has_room : goal.returns-then-not-has_room
 returns-then-not-has_room c = search (put_refused, length_octets)

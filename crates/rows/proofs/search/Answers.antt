@@ -20,7 +20,7 @@ inside : (c : At-loop-i) (k : ℕ) → k < c.args.used
 inside c k h =
     let p = c.requires in
     let b = row_below c.args.width k c.args.used h in
-    omega (arith, p.1)
+    omega (arith, p.rows_inside)
 
 -- the first of a turn's rows has another number
 first : (c : Else-number_in-number) →
@@ -40,7 +40,7 @@ pub overflow_mul-width : goal.overflow_mul-width
 overflow_mul-width c = omega (arith, inside (goal.at.overflow_mul-width c).At-loop-i c.loop-i.i (omega arith))
 
 pub number_in-requires : goal.number_in-requires
-number_in-requires c = omega (arith, c.requires.0, inside (goal.at.number_in-requires c).At-loop-i c.loop-i.i (omega arith))
+number_in-requires c = omega (arith, c.requires.number_inside, inside (goal.at.number_in-requires c).At-loop-i c.loop-i.i (omega arith))
 
 pub returns-then-number_in-number : goal.returns-then-number_in-number
 returns-then-number_in-number c = search_hit _ _ _ _ _ c.loop-i.invariant.1 (omega arith) _ c.number_in.ensures c.if-number_in-number.true
@@ -53,7 +53,7 @@ overflow_mul-width-in-loop-i c = omega (arith, inside (goal.at.overflow_mul-widt
 
 pub number_in-requires-in-loop-i : goal.number_in-requires-in-loop-i
 number_in-requires-in-loop-i c =
-    omega (arith, c.requires.0, inside (goal.at.number_in-requires-in-loop-i c).At-loop-i (c.loop-i.i + 1) (omega arith))
+    omega (arith, c.requires.number_inside, inside (goal.at.number_in-requires-in-loop-i c).At-loop-i (c.loop-i.i + 1) (omega arith))
 
 pub returns-then-number_in-number-2 : goal.returns-then-number_in-number-2
 returns-then-number_in-number-2 c = search_hit _ _ _ _ _ (first (goal.at.returns-then-number_in-number-2 c).Else-number_in-number) (omega arith) _ c.number_in-in-loop-i.ensures c.if-number_in-number-2.true
@@ -78,7 +78,7 @@ overflow_mul-width-then-i-used c = omega (arith, inside (goal.at.overflow_mul-wi
 
 pub number_in-requires-then-i-used : goal.number_in-requires-then-i-used
 number_in-requires-then-i-used c =
-    omega (arith, c.requires.0, inside (goal.at.number_in-requires-then-i-used c).At-loop-i c.loop-i.i c.if-i-used.true)
+    omega (arith, c.requires.number_inside, inside (goal.at.number_in-requires-then-i-used c).At-loop-i c.loop-i.i c.if-i-used.true)
 
 pub returns-then-number_in-number-3 : goal.returns-then-number_in-number-3
 returns-then-number_in-number-3 c = search search_hit

@@ -1,0 +1,8 @@
+-- `data_offset`: the sum of the definition. Assumes nothing.
+use Rattle.image_layout.specs.Layout.{field_offset}
+use mathlib.Core.Path.{refl}
+use Rattle.image_layout.proofs.data_offset.Goals as goal
+
+pub returns : goal.returns
+unfolding field_offset
+returns c = refl
