@@ -14,47 +14,50 @@
 use super::script::{Numbers, Words};
 use super::state::{Lent, Runs, State};
 use super::{frames, say, state};
+use std::io::Stdout;
 use switch::Ingress;
 use switch_verdict::Verdict;
 use tables::Settings;
 
 // Prints a code and the credit that comes with the code; and a code that comes with no credit.
-fn held(code: u8, credit: u32) {
-    say::number(code as u64);
-    say::mark(b'-');
-    say::number(credit as u64);
+fn held(out: Stdout, code: u8, credit: u32) {
+    say::number(out, code as u64);
+    say::mark(out, b'-');
+    say::number(out, credit as u64);
 }
 
-fn refused(code: u8) {
-    say::refused(code);
-    say::mark(b'-');
+fn refused(out: Stdout, code: u8) {
+    say::refused(out, code);
+    say::mark(out, b'-');
 }
 
 // Prints code, mask and credit, `-` for a value that the verdict doesn't carry.
-fn show(verdict: Verdict) {
-    say::arrow();
+fn show(out: Stdout, verdict: Verdict) {
+    say::arrow(out);
     match verdict {
         Verdict::Forwarded { mask, credit } => say::three(
+            out,
             codes::SUCCESS as u64,
             mask as u64,
             credit as u64,
         ),
-        Verdict::Short(credit) => held(codes::SHORT, credit),
-        Verdict::Late(credit) => held(codes::LATE, credit),
-        Verdict::Refused(code) => refused(code),
+        Verdict::Short(credit) => held(out, codes::SHORT, credit),
+        Verdict::Late(credit) => held(out, codes::LATE, credit),
+        Verdict::Refused(code) => refused(out, code),
     }
 }
 
 // Prints all credits and last times.
-fn show_state(credits: [u32; 4], lasts: [u64; 3081]) {
-    say::mark(b'|');
-    say::two(credits[0] as u64, credits[1] as u64);
-    say::two(credits[2] as u64, credits[3] as u64);
-    say::words(&lasts, 0, 4);
+fn show_state(out: Stdout, credits: [u32; 4], lasts: [u64; 3081]) {
+    say::mark(out, b'|');
+    say::two(out, credits[0] as u64, credits[1] as u64);
+    say::two(out, credits[2] as u64, credits[3] as u64);
+    say::words(out, &lasts, 0, 4);
 }
 
 // Prints the verdict on a frame, with only a part of each run lent; returns the runs after the call.
 fn judge_lent(
+    out: Stdout,
     frame: &[u8],
     ingress: Ingress,
     settings: Settings,
@@ -66,15 +69,18 @@ fn judge_lent(
 ) -> Runs {
     let mut held = credits;
     let mut lasts = words;
-    show(switch::frame_call(
-        frame,
-        ingress,
-        settings,
-        &rows[0..lent.rows % 25],
-        &mut held[0..lent.credits % 5],
-        &mut lasts[0..lent.words % 5],
-        &links[0..lent.links % 79],
-    ));
+    show(
+        out,
+        switch::frame_call(
+            frame,
+            ingress,
+            settings,
+            &rows[0..lent.rows % 25],
+            &mut held[0..lent.credits % 5],
+            &mut lasts[0..lent.words % 5],
+            &links[0..lent.links % 79],
+        ),
+    );
     Runs {
         rows,
         credits: held,
@@ -84,13 +90,14 @@ fn judge_lent(
 }
 
 // Prints the verdict on a frame by a state; returns the runs after the call.
-fn judge(state: State, frame: &[u8], ingress: Ingress) -> Runs {
+fn judge(out: Stdout, state: State, frame: &[u8], ingress: Ingress) -> Runs {
     let runs = state.runs;
     let rows = runs.rows;
     let credits = runs.credits;
     let words = runs.words;
     let links = runs.links;
     judge_lent(
+        out,
         frame,
         ingress,
         state.settings,
@@ -103,16 +110,16 @@ fn judge(state: State, frame: &[u8], ingress: Ingress) -> Runs {
 }
 
 // Makes the frame call of a line; returns the state with the credits and last times that the call left.
-fn call(state: State, n: Numbers) -> State {
+fn call(out: Stdout, state: State, n: Numbers) -> State {
     let octets = frames::made(n.b, n.c);
     let ingress = Ingress {
         port: (n.d % 0x0001_0000_0000) as u32,
         time: n.e,
     };
-    let runs = judge(state, &octets[0..n.a as usize % 1520], ingress);
+    let runs = judge(out, state, &octets[0..n.a as usize % 1520], ingress);
     let credits = runs.credits;
     let lasts = runs.words;
-    show_state(credits, lasts);
+    show_state(out, credits, lasts);
     state::with_runs(state, runs)
 }
 
@@ -135,12 +142,12 @@ fn set_given(state: State, n: Numbers) -> State {
     next
 }
 
-pub(crate) fn line(state: State, base: State, n: Numbers, words: Words) -> State {
+pub(crate) fn line(out: Stdout, state: State, base: State, n: Numbers, words: Words) -> State {
     let verb = n.verb;
     match verb {
         b'g' => set_given(state, n),
         b'r' => base,
-        b'f' => call(state, n),
+        b'f' => call(out, state, n),
         _ => state::with_runs(state, state::set(state.runs, n, words)),
     }
 }

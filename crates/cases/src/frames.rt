@@ -6,6 +6,7 @@
 // A remainder keeps each number within its width; no case needs the remainder.
 use super::say;
 use super::script::Numbers;
+use std::io::Stdout;
 
 // The octets of a frame with a constant field and a link number; all octets after these are 0.
 pub(crate) fn made(constant: u64, link: u64) -> [u8; 1519] {
@@ -22,27 +23,28 @@ fn numbered(size: usize) -> [u8; 1519] {
     octets
 }
 
-fn show_head(octets: &[u8]) {
+fn show_head(out: Stdout, octets: &[u8]) {
     let header = frame::head(octets);
     let part = frame::payload(octets);
-    say::arrow();
-    say::two(header.code as u64, header.link as u64);
-    say::two(header.sequence as u64, part.len() as u64);
+    say::arrow(out);
+    say::two(out, header.code as u64, header.link as u64);
+    say::two(out, header.sequence as u64, part.len() as u64);
 }
 
-fn show_fields(octets: &[u8]) {
-    say::mark(b'|');
+fn show_fields(out: Stdout, octets: &[u8]) {
+    say::mark(out, b'|');
     say::two(
+        out,
         frame::constant_field(octets) as u64,
         frame::link_number(octets) as u64,
     );
 }
 
-pub(crate) fn line(n: Numbers) {
+pub(crate) fn line(out: Stdout, n: Numbers) {
     if n.verb == b'f' {
         let octets = numbered(n.a as usize);
         let frame = &octets[0..n.a as usize % 1520];
-        show_head(frame);
-        show_fields(frame);
+        show_head(out, frame);
+        show_fields(out, frame);
     }
 }

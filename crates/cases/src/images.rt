@@ -16,6 +16,7 @@ use super::{say, script};
 use image_read::ImageAnswer;
 use image_write::Written;
 use rows::Found;
+use std::io::Stdout;
 
 // The head of image P.
 const HEAD: u64 = 0x01_0005_01_0300_0000;
@@ -60,37 +61,40 @@ fn whole(accounts: u8, links: u16) -> [u8; 4720] {
 }
 
 // Prints code and offset, then the constant field and the counts.
-fn show(a: ImageAnswer) {
-    say::arrow();
-    say::two(a.code as u64, a.offset as u64);
-    say::mark(b'|');
+fn show(out: Stdout, a: ImageAnswer) {
+    say::arrow(out);
+    say::two(out, a.code as u64, a.offset as u64);
+    say::mark(out, b'|');
     let s = a.settings;
-    say::three(s.constant as u64, s.accounts as u64, s.links as u64);
+    say::three(out, s.constant as u64, s.accounts as u64, s.links as u64);
 }
 
 // Prints what two rows of each run hold.
-fn show_runs(rows: [u8; 12], c: u32, d: u32, t: u64, u: u64, links: [u8; 26]) {
-    say::octets(b"\naccounts", &rows);
-    say::text(b"\ncredits, last times");
-    say::two(c as u64, d as u64);
-    say::two(t, u);
-    say::octets(b"\nlinks", &links);
+fn show_runs(out: Stdout, rows: [u8; 12], c: u32, d: u32, t: u64, u: u64, links: [u8; 26]) {
+    say::octets(out, b"\naccounts", &rows);
+    say::text(out, b"\ncredits, last times");
+    say::two(out, c as u64, d as u64);
+    say::two(out, t, u);
+    say::octets(out, b"\nlinks", &links);
 }
 
 // Loads an image into the first parts of runs that hold two rows each.
-fn load(image: &[u8], lent: Lent) {
+fn load(out: Stdout, image: &[u8], lent: Lent) {
     let mut rows = [170u8; 12];
     let mut credits = [7u32; 2];
     let mut lasts = [9u64; 2];
     let mut links = [187u8; 26];
-    show(image_load::load(
-        image,
-        &mut rows[0..lent.rows % 13],
-        &mut credits[0..lent.credits % 3],
-        &mut lasts[0..lent.words % 3],
-        &mut links[0..lent.links % 27],
-    ));
-    show_runs(rows, credits[0], credits[1], lasts[0], lasts[1], links);
+    show(
+        out,
+        image_load::load(
+            image,
+            &mut rows[0..lent.rows % 13],
+            &mut credits[0..lent.credits % 3],
+            &mut lasts[0..lent.words % 3],
+            &mut links[0..lent.links % 27],
+        ),
+    );
+    show_runs(out, rows, credits[0], credits[1], lasts[0], lasts[1], links);
 }
 
 // The two account rows of an image with two accounts and two links, and a third row without its last octet.
@@ -110,37 +114,40 @@ fn link_rows(image: &[u8]) -> [u8; 38] {
 }
 
 // Prints code and offset of a written image.
-fn show_written(w: Written) {
-    say::mark(b'|');
-    say::two(w.code as u64, w.offset as u64);
+fn show_written(out: Stdout, w: Written) {
+    say::mark(out, b'|');
+    say::two(out, w.code as u64, w.offset as u64);
 }
 
 // Writes so many rows of an image into a room; returns the room.
-fn write(image: &[u8], accounts: u64, links: u64, size: u64) -> [u8; 64] {
+fn write(out: Stdout, image: &[u8], accounts: u64, links: u64, size: u64) -> [u8; 64] {
     let mut room = [170u8; 64];
-    show_written(image_write::write(
-        octets::u32_at(image, 4),
-        &account_rows(image),
-        accounts as usize,
-        &link_rows(image),
-        links as usize,
-        &mut room[0..size as usize % 65],
-    ));
+    show_written(
+        out,
+        image_write::write(
+            octets::u32_at(image, 4),
+            &account_rows(image),
+            accounts as usize,
+            &link_rows(image),
+            links as usize,
+            &mut room[0..size as usize % 65],
+        ),
+    );
     room
 }
 
 // Reads an image; one of two accounts and two links is also written from its rows.
-fn read(image: &[u8]) {
-    show(image_read::check(image));
+fn read(out: Stdout, image: &[u8]) {
+    show(out, image_read::check(image));
     if image.len() == TWO_OF_EACH {
-        write(image, 2, 2, TWO_OF_EACH as u64);
+        write(out, image, 2, 2, TWO_OF_EACH as u64);
     }
 }
 
 // Writes so many rows of an image, and prints the room.
-fn write_rows(image: &[u8], accounts: u64, links: u64, size: u64) {
-    let room = write(image, accounts, links, size);
-    say::octets(b" :", &room);
+fn write_rows(out: Stdout, image: &[u8], accounts: u64, links: u64, size: u64) {
+    let room = write(out, image, accounts, links, size);
+    say::octets(out, b" :", &room);
 }
 
 fn lent_by(words: Words) -> Lent {
@@ -153,16 +160,16 @@ fn lent_by(words: Words) -> Lent {
 }
 
 // Answers an image by the word after the image's octets: loads, writes or reads the image.
-fn answer(image: &[u8], words: Words) {
+fn answer(out: Stdout, image: &[u8], words: Words) {
     match (words[14] % 256) as u8 {
-        b'i' => load(image, lent_by(words)),
-        b'w' => write_rows(image, words[15], words[16], words[17]),
-        _ => read(image),
+        b'i' => load(out, image, lent_by(words)),
+        b'w' => write_rows(out, image, words[15], words[16], words[17]),
+        _ => read(out, image),
     }
 }
 
 // Makes the image of a line, with eight octets changed, and answers that image.
-fn image(n: Numbers, words: Words) {
+fn image(out: Stdout, n: Numbers, words: Words) {
     let mut image = whole((n.a % 256) as u8, (n.b % 512) as u16);
     octets_write::copy(
         &script::row(words, 6, [1u8; 8]),
@@ -171,19 +178,22 @@ fn image(n: Numbers, words: Words) {
         &mut image,
         n.d as usize,
     );
-    answer(&image[0..n.c as usize % 4721], words);
+    answer(out, &image[0..n.c as usize % 4721], words);
 }
 
 // Writes so many rows of zeros; rows are lent for one more than each limit.
-fn zeros(accounts: usize, links: usize) {
-    show_written(image_write::write(
-        0x0300_0000,
-        &[0u8; 390],
-        accounts,
-        &[0u8; 3341],
-        links,
-        &mut [0u8; 8],
-    ));
+fn zeros(out: Stdout, accounts: usize, links: usize) {
+    show_written(
+        out,
+        image_write::write(
+            0x0300_0000,
+            &[0u8; 390],
+            accounts,
+            &[0u8; 3341],
+            links,
+            &mut [0u8; 8],
+        ),
+    );
 }
 
 // Four link rows with the numbers 7, 8, 8 and 9, the last row without its last octet.
@@ -197,25 +207,28 @@ fn link_numbers() -> [u8; 51] {
 }
 
 // Prints the row found, `-` for none.
-fn show_row(found: Found) {
-    say::arrow();
+fn show_row(out: Stdout, found: Found) {
+    say::arrow(out);
     match found {
-        Found::At(row) => say::number(row as u64),
-        Found::Nowhere => say::mark(b'-'),
+        Found::At(row) => say::number(out, row as u64),
+        Found::Nowhere => say::mark(out, b'-'),
     }
 }
 
 // Finds a number in the first `count` rows of `link_numbers`.
-fn find(count: usize, number: u64) {
-    show_row(tables::find(&link_numbers(), count, (number % 65536) as u16));
+fn find(out: Stdout, count: usize, number: u64) {
+    show_row(
+        out,
+        tables::find(&link_numbers(), count, (number % 65536) as u16),
+    );
 }
 
-pub(crate) fn line(n: Numbers, words: Words) {
+pub(crate) fn line(out: Stdout, n: Numbers, words: Words) {
     let verb = n.verb;
     match verb {
-        b'i' => image(n, words),
-        b'z' => zeros(n.a as usize, n.b as usize),
-        b'f' => find(n.a as usize, n.b),
+        b'i' => image(out, n, words),
+        b'z' => zeros(out, n.a as usize, n.b as usize),
+        b'f' => find(out, n.a as usize, n.b),
         _ => (),
     }
 }

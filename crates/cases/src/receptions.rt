@@ -12,41 +12,51 @@ use super::script::{Numbers, Words};
 use super::state::{Lent, State};
 use super::{say, state};
 use receive_answer::{Arrival, Network, Reception};
+use std::io::Stdout;
 
 // Prints an answer's name and number.
-fn show(answer: Reception) {
+fn show(out: Stdout, answer: Reception) {
     match answer {
-        Reception::Delivered => say::text(b" -> delivered"),
-        Reception::Copy => say::text(b" -> copy"),
-        Reception::OutOfSequence => say::text(b" -> out of sequence"),
-        Reception::UnknownLink => say::text(b" -> unknown link"),
-        Reception::Late => say::text(b" -> late"),
+        Reception::Delivered => say::text(out, b" -> delivered"),
+        Reception::Copy => say::text(out, b" -> copy"),
+        Reception::OutOfSequence => say::text(out, b" -> out of sequence"),
+        Reception::UnknownLink => say::text(out, b" -> unknown link"),
+        Reception::Late => say::text(out, b" -> late"),
     }
-    say::number(answer.number() as u64);
+    say::number(out, answer.number() as u64);
 }
 
 // Prints the last time, the last numbers on A and B, and the two words of a number's delivery on A and on B.
-fn show_memory(memory: [u64; 3081], row: usize, number: u64) {
+fn show_memory(out: Stdout, memory: [u64; 3081], row: usize, number: u64) {
     let first = row % 3 * receive::MEMORY_WORDS;
     let a = first + 3 + 2 * (number % 256) as usize;
-    say::words(&memory, first, 3);
-    say::words(&memory, a, 2);
-    say::words(&memory, a + 512, 2);
+    say::words(out, &memory, first, 3);
+    say::words(out, &memory, a, 2);
+    say::words(out, &memory, a + 512, 2);
 }
 
 // Receives a frame, with a part of rows and memories lent; returns the memories after the call.
-fn received(frame: Arrival, lent: Lent, rows: [u8; 24], memory: [u64; 3081]) -> [u64; 3081] {
+fn received(
+    out: Stdout,
+    frame: Arrival,
+    lent: Lent,
+    rows: [u8; 24],
+    memory: [u64; 3081],
+) -> [u64; 3081] {
     let mut held = memory;
-    show(receive::receive(
-        frame,
-        &rows[0..lent.rows % 25],
-        &mut held[0..lent.words % 3082],
-    ));
+    show(
+        out,
+        receive::receive(
+            frame,
+            &rows[0..lent.rows % 25],
+            &mut held[0..lent.words % 3082],
+        ),
+    );
     held
 }
 
 // Receives the frame of a line; returns the state with the memories that the call left.
-fn arrive(state: State, network: Network, n: Numbers) -> State {
+fn arrive(out: Stdout, state: State, network: Network, n: Numbers) -> State {
     let frame = Arrival {
         link: (n.a % 65536) as u16,
         network,
@@ -56,8 +66,8 @@ fn arrive(state: State, network: Network, n: Numbers) -> State {
     let runs = state.runs;
     let rows = runs.rows;
     let held = runs.words;
-    let memory = received(frame, state.lent, rows, held);
-    show_memory(memory, state.shown, n.b);
+    let memory = received(out, frame, state.lent, rows, held);
+    show_memory(out, memory, state.shown, n.b);
     state::with_runs(state, state::with_words(runs, memory))
 }
 
@@ -81,11 +91,11 @@ fn set_shown(state: State, row: u64) -> State {
     next
 }
 
-pub(crate) fn line(state: State, n: Numbers, words: Words) -> State {
+pub(crate) fn line(out: Stdout, state: State, n: Numbers, words: Words) -> State {
     let verb = n.verb;
     match verb {
-        b'A' => arrive(state, Network::A, n),
-        b'B' => arrive(state, Network::B, n),
+        b'A' => arrive(out, state, Network::A, n),
+        b'B' => arrive(out, state, Network::B, n),
         b'l' => set_lent(state, n.a as usize, n.b as usize),
         b's' => set_shown(state, n.a),
         _ => state::with_runs(state, state::set(state.runs, n, words)),

@@ -6,14 +6,14 @@ ghost use Rattle.std.specs.Prelude.{◌<◌, ◌≤◌, length};
 pub(crate) type Words = [u64; 20];
 
 // A line: the offset of the newline that ends the line, or the text's length; and the line's words.
-#[derive(Drop)]
+#[derive(Clone, Copy)]
 pub(crate) struct Line {
     pub(crate) end: usize,
     pub(crate) words: Words,
 }
 
 // The words of a line by name: the first letter of the first word, and the seven words after the first.
-#[derive(Drop)]
+#[derive(Clone, Copy)]
 pub(crate) struct Numbers {
     pub(crate) verb: u8,
     pub(crate) a: u64,

@@ -9,7 +9,7 @@ use terms::Terms;
 const MEMORY: u64 = receive::MEMORY_WORDS as u64;
 
 // The runs that are lent: account rows or the rows of the receiving end, credits, last times or memories, link rows.
-#[derive(Drop)]
+#[derive(Clone, Copy)]
 pub(crate) struct Runs {
     pub(crate) rows: [u8; 24],
     pub(crate) credits: [u32; 4],
@@ -18,7 +18,7 @@ pub(crate) struct Runs {
 }
 
 // How much is lent of each run.
-#[derive(Drop)]
+#[derive(Clone, Copy)]
 pub(crate) struct Lent {
     pub(crate) rows: usize,
     pub(crate) credits: usize,
@@ -28,7 +28,7 @@ pub(crate) struct Lent {
 
 // The account of the policing steps; the runs, how much of the runs is lent, and the settings; the row whose memory is
 // printed.
-#[derive(Drop)]
+#[derive(Clone, Copy)]
 pub(crate) struct State {
     pub(crate) account: Account,
     pub(crate) runs: Runs,

@@ -11,6 +11,7 @@
 use super::say;
 use super::script::Numbers;
 use account::{Account, Outcome};
+use std::io::Stdout;
 use terms::Terms;
 
 fn account_of(n: Numbers) -> Account {
@@ -28,61 +29,61 @@ fn account_of(n: Numbers) -> Account {
 }
 
 // Prints code and credit, `-` for no credit.
-fn show(outcome: Outcome) {
-    say::arrow();
+fn show(out: Stdout, outcome: Outcome) {
+    say::arrow(out);
     match outcome {
-        Outcome::Forwarded(credit) => say::two(codes::SUCCESS as u64, credit as u64),
-        Outcome::Short(credit) => say::two(codes::SHORT as u64, credit as u64),
-        Outcome::Late(credit) => say::two(codes::LATE as u64, credit as u64),
-        Outcome::Refused(code) => say::refused(code),
+        Outcome::Forwarded(credit) => say::two(out, codes::SUCCESS as u64, credit as u64),
+        Outcome::Short(credit) => say::two(out, codes::SHORT as u64, credit as u64),
+        Outcome::Late(credit) => say::two(out, codes::LATE as u64, credit as u64),
+        Outcome::Refused(code) => say::refused(out, code),
     }
 }
 
-fn step(account: Account, octets: usize, time: u64) -> Account {
+fn step(out: Stdout, account: Account, octets: usize, time: u64) -> Account {
     let p = account.police(octets, time);
     let outcome = p.outcome;
-    show(outcome);
+    show(out, outcome);
     p.account
 }
 
-fn debit(account: Account, octets: usize) -> Account {
+fn debit(out: Stdout, account: Account, octets: usize) -> Account {
     let after = account.debit(octets);
-    say::number(after.credit as u64);
+    say::number(out, after.credit as u64);
     after
 }
 
-fn top_up(mut account: Account, credit: u64, time: u64) {
+fn top_up(out: Stdout, mut account: Account, credit: u64, time: u64) {
     account.credit = (credit % 0x0001_0000_0000) as u32;
     let after = account.top_up(time);
-    say::arrow();
-    say::two(after.credit as u64, after.last);
+    say::arrow(out);
+    say::two(out, after.credit as u64, after.last);
 }
 
-fn cost(mut account: Account, mode: u64, octets: usize) {
+fn cost(out: Stdout, mut account: Account, mode: u64, octets: usize) {
     let other = (mode % 256) as u8;
     account.terms.mode = other;
-    say::arrow();
-    say::number(account.cost(octets).units as u64);
+    say::arrow(out);
+    say::number(out, account.cost(octets).units as u64);
 }
 
 // Prints the capacity or, for a line with octets, the cost of these octets.
-fn figure(account: Account, mode: u64, octets: u64) {
+fn figure(out: Stdout, account: Account, mode: u64, octets: u64) {
     if octets == 0 {
-        say::number(account.capacity().units as u64);
+        say::number(out, account.capacity().units as u64);
     } else {
-        cost(account, mode, octets as usize);
+        cost(out, account, mode, octets as usize);
     }
 }
 
-pub(crate) fn line(account: Account, n: Numbers) -> Account {
+pub(crate) fn line(out: Stdout, account: Account, n: Numbers) -> Account {
     let verb = n.verb;
     match verb {
         b'a' => return account_of(n),
-        b's' => return step(account, n.a as usize, n.b),
-        b'd' => return debit(account, n.a as usize),
-        b't' => top_up(account, n.b, n.c),
-        b'c' => figure(account, n.a, n.b),
-        b'l' => say::number(account.last),
+        b's' => return step(out, account, n.a as usize, n.b),
+        b'd' => return debit(out, account, n.a as usize),
+        b't' => top_up(out, account, n.b, n.c),
+        b'c' => figure(out, account, n.a, n.b),
+        b'l' => say::number(out, account.last),
         _ => (),
     }
     account

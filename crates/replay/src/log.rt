@@ -1,8 +1,8 @@
 // The turns of a replay: octets of `rig.frames` are read before a turn, and the lines that it put are written after it.
 use crate::edge;
 use crate::edge::Written;
-use libc::{STDERR_FILENO, STDOUT_FILENO};
 use replay_turn::{Progress, Stop};
+use std::fs::File;
 use tables::Settings;
 
 // Octets read at once: those of the longest record and more.
@@ -10,7 +10,7 @@ pub(crate) const READ_OCTETS: usize = 4 * replay_log::LONGEST_RECORD;
 
 // The octets at hand: where the replay stands in them, how many they are, whether the log has none after them, and whether
 // reading them failed.
-#[derive(Drop)]
+#[derive(Clone, Copy)]
 pub(crate) struct Hand {
     pub(crate) at: usize,
     pub(crate) filled: usize,
@@ -19,18 +19,18 @@ pub(crate) struct Hand {
 }
 
 // Prints the lines at the front of the room, and returns whether all of them were written.
-pub(crate) fn print(out: &[u8], written: usize) -> bool {
+pub(crate) fn print(rt: HostRuntime, out: &[u8], written: usize) -> bool {
     let end = octets::least(written, out.len());
-    let done = edge::write_all(STDOUT_FILENO, &out[0..end]);
+    let done = edge::write_all(&mut rt.stdout(), &out[0..end]);
     match done {
         Written::All => true,
-        Written::Failed => {
-            os::fail(b"replay: the answers can't be written");
+        Written::Failed(error) => {
+            edge::fail(rt, "replay: the answers can't be written", error);
             false
         }
         Written::Nothing => {
             edge::write_all(
-                STDERR_FILENO,
+                &mut rt.stderr(),
                 b"replay: the answers can't be written: a write took nothing\n",
             );
             false
@@ -39,27 +39,39 @@ pub(crate) fn print(out: &[u8], written: usize) -> bool {
 }
 
 // Keeps what is left of the octets at hand, and reads on after it.
-fn read_on(file: i32, log: &mut [u8], at: usize, filled: usize) -> Hand {
+fn read_on(
+    rt: HostRuntime,
+    file: &mut Option<File>,
+    log: &mut [u8],
+    at: usize,
+    filled: usize,
+) -> Hand {
     let rest = replay_turn::keep_rest(log, at, filled);
     let start = octets::least(rest, log.len());
     let brought = edge::read_once(file, &mut log[start..]);
-    if brought.failed {
-        os::fail(b"replay: rig.frames can't be read");
+    if let Some(error) = brought.failed {
+        edge::fail(rt, "replay: rig.frames can't be read", error);
     }
     Hand {
         at: 0,
         filled: start + brought.octets,
         whole: brought.octets == 0,
-        failed: brought.failed,
+        failed: brought.failed.is_some(),
     }
 }
 
 // The octets at hand for the next turn: more are read where the last turn asked for them and the log may have them.
-fn next_hand(file: i32, log: &mut [u8], progress: Progress, hand: Hand) -> Hand {
+fn next_hand(
+    rt: HostRuntime,
+    file: &mut Option<File>,
+    log: &mut [u8],
+    progress: Progress,
+    hand: Hand,
+) -> Hand {
     let stop = progress.stop;
     if !hand.whole {
         if let Stop::Octets = stop {
-            return read_on(file, log, progress.at, hand.filled);
+            return read_on(rt, file, log, progress.at, hand.filled);
         }
     }
     Hand {
@@ -113,7 +125,8 @@ fn status_of(stop: Stop) -> u8 {
 // Turn after turn until the replay is over; returns how the replay ended. The turns are counted down, since nothing says that a
 // file ends.
 pub(crate) fn run(
-    file: i32,
+    rt: HostRuntime,
+    file: &mut Option<File>,
     log: &mut [u8],
     first: Hand,
     start: Progress,
@@ -128,7 +141,7 @@ pub(crate) fn run(
     let mut progress = start;
     let mut turns = u64::MAX;
     while 0 < turns {
-        hand = next_hand(file, log, progress, hand);
+        hand = next_hand(rt, file, log, progress, hand);
         if hand.failed {
             return edge::READ_FAILED;
         }
@@ -136,7 +149,7 @@ pub(crate) fn run(
         progress = one_turn(
             log, hand, frames, settings, out, accounts, credits, lasts, links,
         );
-        if !print(out, progress.written) {
+        if !print(rt, out, progress.written) {
             return edge::WRITE_FAILED;
         }
         let stop = progress.stop;
