@@ -1,13 +1,13 @@
-//! Links the static library that `rt staticlib exports` writes.
+//! Links the static library that `rt lib` writes in crates/exports.
 
 use std::path::Path;
 
 fn main() {
-    let folder = Path::new(env!("CARGO_MANIFEST_DIR")).join("../../target/staticlib");
+    let folder = Path::new(env!("CARGO_MANIFEST_DIR")).join("../../crates/exports/out");
     let archive = folder.join("libexports.a");
     println!("cargo:rerun-if-changed={}", archive.display());
     if !archive.is_file() {
-        panic!("target/staticlib/libexports.a is missing: run `rt staticlib exports` first");
+        panic!("crates/exports/out/libexports.a is missing: run `rt lib` in crates/exports first");
     }
     println!("cargo:rustc-link-search=native={}", folder.display());
     println!("cargo:rustc-link-lib=static=exports");

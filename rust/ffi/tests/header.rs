@@ -86,7 +86,7 @@ fn own_file(name: &str) -> PathBuf {
 #[test]
 fn the_header_and_the_library_fit() {
     let source = Path::new(env!("CARGO_MANIFEST_DIR")).join("tests/header.c");
-    let library = root().join("target/staticlib/libexports.a");
+    let library = root().join("crates/exports/out/libexports.a");
     let library = library.to_str().expect("a plain path");
     for language in &LANGUAGES {
         let program = own_file("header");

@@ -40,10 +40,9 @@ impl Rig {
 
     /// Runs the proved program on the rig.
     fn run(&self, name: &str) -> Output {
-        let program = Path::new(env!("CARGO_MANIFEST_DIR")).join("../../target/bin/replay");
-        let program = fs::canonicalize(program).expect(
-            "target/bin/replay is missing: `rt check replay` at the repository's root builds it",
-        );
+        let program = Path::new(env!("CARGO_MANIFEST_DIR")).join("../../crates/replay/out/replay");
+        let program = fs::canonicalize(program)
+            .expect("crates/replay/out/replay is missing: `rt run` in crates/replay builds it");
         Command::new(program)
             .current_dir(self.build(name))
             .stdin(Stdio::null())

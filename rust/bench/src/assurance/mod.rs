@@ -41,8 +41,8 @@ impl Greatest {
 
 /// What stands in the repository's folder of built files.
 fn built(path: &str) -> PathBuf {
-    let target = Path::new(env!("CARGO_MANIFEST_DIR")).join("../../target");
-    target.join(path)
+    let crates = Path::new(env!("CARGO_MANIFEST_DIR")).join("../../crates");
+    crates.join(path)
 }
 
 fn joined(names: &[String]) -> String {
@@ -155,9 +155,9 @@ fn runs_within(program: &Path, folder: &Path, kib: u32) -> Result<bool, String> 
 
 /// The replay program: its stack by its listing, and the least limit of the stack under which it replays a rig.
 fn print_program() -> Result<(), String> {
-    let (object, program) = (built("obj/replay.o"), built("bin/replay"));
+    let (object, program) = (built("replay/out/replay.o"), built("replay/out/replay"));
     let missing =
-        |_| "target/bin/replay is missing: `rt check replay` at the repository's root builds it";
+        |_| "crates/replay/out/replay is missing: `rt run` in crates/replay builds it";
     let program = program.canonicalize().map_err(missing)?;
     let listing = Listing::of(&object)?;
     print_object("replay", &object, &listing)?;
@@ -186,7 +186,7 @@ fn print_all() -> Result<(), String> {
     let version = Command::new("rt").arg("version").output();
     let version = version.map_err(|error| format!("rt: {error}"))?;
     println!("{}", String::from_utf8_lossy(&version.stdout));
-    let archive = built("staticlib/libexports.a");
+    let archive = built("exports/out/libexports.a");
     let library = Listing::of(&archive)?;
     print_object("library", &archive, &library)?;
     stepping::prepare();

@@ -26,22 +26,21 @@ fn root_with(program: &str) -> Folder {
             }
         }
     };
-    link_all(&root(), &folder.0, "target");
-    let (target, bin) = (folder.0.join("target"), folder.0.join("target/bin"));
-    fs::create_dir_all(&bin).expect("a folder");
-    link_all(&root().join("target"), &target, "bin");
-    put_script(&bin.join("replay"), program);
+    link_all(&root(), &folder.0, "crates");
+    let out = folder.0.join("crates/replay/out");
+    fs::create_dir_all(&out).expect("a folder");
+    put_script(&out.join("replay"), program);
     fs::copy(root().join("replay"), folder.0.join("replay")).expect("the launcher");
     folder
 }
 
-/// A launcher's answers, its words and its exit status; `check` is that of `rt check`.
-fn launch(root: &Path, words: &[&Path], check: u8, out: Out) -> (Vec<u8>, String, i32) {
+/// A launcher's answers, its words and its exit status; `build` is that of `rt run`.
+fn launch(root: &Path, words: &[&Path], build: u8, out: Out) -> (Vec<u8>, String, i32) {
     let tools = Folder::new();
     let path = std::env::var("PATH").unwrap_or_default();
     put_script(
         &tools.0.join("rt"),
-        &format!("[ \"$1\" = check ] && exit {check}; PATH=$EDGE_PATH exec rt \"$@\""),
+        &format!("[ \"$1\" = run ] && exit {build}; PATH=$EDGE_PATH exec rt \"$@\""),
     );
     let (redirected, stdout) = out.given();
     let ran = finish(

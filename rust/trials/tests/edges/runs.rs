@@ -16,10 +16,10 @@ pub fn root() -> PathBuf {
 }
 
 fn program() -> PathBuf {
-    let program = root().join("target/bin/replay");
+    let program = root().join("crates/replay/out/replay");
     assert!(
         program.is_file(),
-        "target/bin/replay is missing: `rt check replay` at the repository's root builds it"
+        "crates/replay/out/replay is missing: `rt run` in crates/replay builds it"
     );
     program
 }

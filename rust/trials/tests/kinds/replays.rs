@@ -81,11 +81,11 @@ fn any_rig(r: &mut Random) -> Result<Rig, Mismatch> {
 }
 
 fn program() -> Result<PathBuf, String> {
-    let program = Path::new(env!("CARGO_MANIFEST_DIR")).join("../../target/bin/replay");
+    let program = Path::new(env!("CARGO_MANIFEST_DIR")).join("../../crates/replay/out/replay");
     if program.is_file() {
         return Ok(program);
     }
-    Err("target/bin/replay is missing: `rt check replay` at the repository's root builds it".into())
+    Err("crates/replay/out/replay is missing: `rt run` in crates/replay builds it".into())
 }
 
 fn run_program(program: &Path, folder: &Path) -> Result<Vec<u8>, String> {
@@ -93,9 +93,9 @@ fn run_program(program: &Path, folder: &Path) -> Result<Vec<u8>, String> {
     command.current_dir(folder).stdin(Stdio::null());
     let ran = command
         .output()
-        .map_err(|e| format!("target/bin/replay didn't start: {e}"))?;
+        .map_err(|e| format!("crates/replay/out/replay didn't start: {e}"))?;
     if !ran.status.success() {
-        return Err(format!("target/bin/replay failed: {}", ran.status));
+        return Err(format!("crates/replay/out/replay failed: {}", ran.status));
     }
     Ok(ran.stdout)
 }
