@@ -1,7 +1,7 @@
 -- Which frames the rule's sums are about, by the answers to these frames, and that their times never fall. Assumes
 -- nothing.
 use Prim.Native.Nat.{ℕ, zero, suc, ◌≤◌, ◌<◌}
-use mathlib.Core.Bool.{Bool, false, ◌||◌}
+use mathlib.Core.Bool.{Bool, false}
 use mathlib.Core.List.{List, [], ◌∷◌, reverse}
 use mathlib.Core.Path.{◌≡◌, refl, sym, ap, ◌∙◌, subst}
 use native.Mathlib.Nat.{le_trans}
@@ -18,7 +18,7 @@ use Rattle.frame.proofs.Frame.{by_length}
 use Rattle.terms.specs.Terms.{cost}
 use Rattle.terms.specs.declared.Terms.{Terms}
 use Rattle.account_rule.specs.Bucket.{Reached, reached, last_time, rule_holds}
-use Rattle.account_rule.specs.Rule.{StepCall, allowance, rule_arrived, rule_step, rule_of_account, step_rule_past}
+use Rattle.account_rule.specs.Rule.{StepCall, allowance, rule_arrived, rule_step, rule_of_account}
 use Rattle.account_rule.specs.Counted.{reaching, counted_for, NeverFall, steps_reached, StepsReached}
 use Rattle.account_rule.proofs.Rule.{step_refused, step_arrived, rule_of_steps}
 

@@ -31,7 +31,6 @@ use Rattle.tables.specs.declared.Link.{Link}
 use Rattle.rows.proofs.Finding.{first_found}
 use Rattle.tables.proofs.Claims.{links_same}
 use Rattle.tables_rules.proofs.Rules.{account_past, sound_account, sound_port, sound_sizes}
-use Rattle.switch_verdict.specs.declared.Verdict.TheVariants.{Forwarded, Short, Late}
 use Rattle.switch_verdict.specs.Verdict.{Report, report}
 use Rattle.filter.specs.Filter.{frame_code, port_code}
 use Rattle.switch.specs.Call.{State, Call, After, in_use_by, accounts_in_use, account_held, Decided, kept, step_on, decided, stored, refused_with, by_link, called}

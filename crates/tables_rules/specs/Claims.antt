@@ -1,6 +1,6 @@
 -- The value rules exactly, and at both sides of their bounds (document 01, "Accounts and links" and "The configuration image");
 -- proved in proofs/Claims.antt.
-use Rattle.std.specs.Prelude.{ℕ, suc, ◌-◌, ◌/◌, ◌%◌, ◌^◌, ◌≤◌, ◌<◌, Bool, true, false, not, List, [], ◌∷◌, map, ◌↔◌, ◌≡◌, eqb}
+use Rattle.std.specs.Prelude.{ℕ, suc, ◌-◌, ◌/◌, ◌%◌, ◌^◌, ◌≤◌, ◌<◌, true, false, not, List, [], ◌∷◌, map, ◌↔◌, ◌≡◌, eqb}
 use Rattle.rows.specs.Rows.{Rows}
 use Rattle.terms.specs.Terms.{terms_good}
 use Rattle.tables.specs.Rows.{account_in, link_in}

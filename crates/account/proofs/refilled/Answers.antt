@@ -1,6 +1,5 @@
 -- `refilled`: the cut time fills the account as the whole time does. Assumes nothing.
 use Rattle.account.proofs.Refill.{gain_fits, held_fits, refilled_full, refilled_below}
-use borrow.Author.Rules.{rules}
 use Rattle.account.proofs.refilled.Goals as goal
 
 pub overflow_mul-held : goal.overflow_mul-held

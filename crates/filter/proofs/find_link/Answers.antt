@@ -1,6 +1,5 @@
 -- `find_link`: the frame alone, then the link of its number. Assumes nothing.
 use Rattle.filter.proofs.Filter.{route_stopped, route_unknown, route_link}
-use borrow.Author.Rules.{rules}
 use Rattle.filter.proofs.find_link.Goals as goal
 
 pub returns-then-code-ne-SUCCESS : goal.returns-then-code-ne-SUCCESS

@@ -1,6 +1,5 @@
 -- `port_code`: the port, then both sizes. Assumes nothing.
 use Rattle.filter.proofs.Filter.{port_other, port_small, port_large, port_passes}
-use borrow.Author.Rules.{rules}
 use Rattle.filter.proofs.port_code.Goals as goal
 
 pub returns-then-port-link : goal.returns-then-port-link

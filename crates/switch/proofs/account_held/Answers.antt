@@ -1,6 +1,5 @@
 -- `account_held`: the row, the credit and the last time. Assumes nothing.
 use Rattle.switch.proofs.Call.{held_by}
-use borrow.Author.Rules.{rules}
 use Rattle.switch.proofs.account_held.Goals as goal
 
 pub returns : goal.returns

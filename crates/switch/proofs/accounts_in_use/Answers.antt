@@ -1,5 +1,4 @@
 -- `accounts_in_use`: the least of four numbers. Assumes nothing.
-use borrow.Author.Rules.{rules}
 use Rattle.switch.specs.Call.{in_use_by}
 use Rattle.switch.proofs.accounts_in_use.Goals as goal
 

@@ -1,7 +1,6 @@
 -- `decide`: the link, the account, the port and the sizes, then the account's `judge`. Assumes nothing.
 use Rattle.switch.proofs.Call.{decided_link, decided_account, decided_port, decided_step}
 use Rattle.account.proofs.Methods.{units_is}
-use borrow.Author.Rules.{rules}
 use Rattle.switch.proofs.decide.Goals as goal
 
 pub returns-then-not-link_sound : goal.returns-then-not-link_sound

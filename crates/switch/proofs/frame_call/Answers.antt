@@ -1,7 +1,6 @@
 -- `frame_call`: by the frame's route; the account is in use where its credit and last time are stored. Assumes nothing.
 use Rattle.switch.proofs.Call.{used_credit, used_last, used_row, call_stopped, call_unused, link_sized, call_stored}
 use native.Mathlib.Omega.{arith}
-use borrow.Author.Rules.{rules}
 use Rattle.switch.proofs.frame_call.Goals as goal
 
 pub returns-then-used-a : goal.returns-then-used-a

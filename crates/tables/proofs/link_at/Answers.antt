@@ -3,7 +3,6 @@ use mathlib.Core.Path.{◌∙◌}
 use native.Mathlib.Omega.{arith}
 use Rattle.octets.proofs.Tests.{fits}
 use Rattle.tables.proofs.Rows.{link_written}
-use borrow.Author.Rules.{rules}
 use Rattle.tables.proofs.link_at.Goals as goal
 
 pub link_in-requires : goal.link_in-requires

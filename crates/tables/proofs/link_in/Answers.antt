@@ -1,7 +1,6 @@
 -- `link_in`: each value at its offset. Assumes nothing.
 use Rattle.tables.proofs.Rows.{link_read}
 use Rattle.tables.specs.Rows.{link_at}
-use borrow.Author.Rules.{rules}
 use Rattle.tables.proofs.link_in.Goals as goal
 
 pub returns : goal.returns

@@ -1,7 +1,6 @@
 -- `look_up`: the row found, which lies inside the run. Assumes nothing.
 use native.Mathlib.Omega.{arith}
 use Rattle.tables.proofs.Lookups.{found_inside, lookup_absent, lookup_present}
-use borrow.Author.Rules.{rules}
 use Rattle.tables.proofs.look_up.Goals as goal
 
 pub overflow_mul-row : goal.overflow_mul-row

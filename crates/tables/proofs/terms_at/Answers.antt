@@ -3,7 +3,6 @@ use mathlib.Core.Path.{◌∙◌}
 use native.Mathlib.Omega.{arith}
 use Rattle.octets.proofs.Tests.{fits}
 use Rattle.tables.proofs.Rows.{terms_written}
-use borrow.Author.Rules.{rules}
 use Rattle.tables.proofs.terms_at.Goals as goal
 
 pub terms_in-requires : goal.terms_in-requires

@@ -1,7 +1,6 @@
 -- `terms_in`: each value at its offset. Assumes nothing.
 use Rattle.tables.proofs.Rows.{terms_read}
 use Rattle.tables.specs.Rows.{terms_at}
-use borrow.Author.Rules.{rules}
 use Rattle.tables.proofs.terms_in.Goals as goal
 
 pub returns : goal.returns

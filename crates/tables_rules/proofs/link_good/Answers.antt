@@ -1,6 +1,5 @@
 -- `link_good`: the number, then the other values. Assumes nothing.
 use Rattle.tables_rules.proofs.Rules.{link_falls, link_row_lem}
-use borrow.Author.Rules.{rules}
 use Rattle.tables_rules.proofs.link_good.Goals as goal
 
 pub returns-then-not-number_rises : goal.returns-then-not-number_rises

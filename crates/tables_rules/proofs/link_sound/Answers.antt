@@ -1,6 +1,5 @@
 -- `link_sound`: the account, the ports, the sizes. Assumes nothing.
 use Rattle.tables_rules.proofs.Rules.{account_past, ports_bad, sizes_left}
-use borrow.Author.Rules.{rules}
 use Rattle.tables_rules.proofs.link_sound.Goals as goal
 
 pub returns-then-accounts-link : goal.returns-then-accounts-link

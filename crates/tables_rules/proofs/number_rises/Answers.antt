@@ -2,7 +2,6 @@
 use borrow.Author.Tests.{ne_eqb}
 use Rattle.tables_rules.specs.Rules.{number_rises}
 use Rattle.tables_rules.proofs.Rules.{number_row, rises_first}
-use borrow.Author.Rules.{rules}
 use Rattle.tables_rules.proofs.number_rises.Goals as goal
 
 pub returns-then-j-eq0 : goal.returns-then-j-eq0

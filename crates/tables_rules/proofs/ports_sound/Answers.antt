@@ -2,7 +2,6 @@
 use Prim.Native.Nat.{◌/◌, ◌^◌}
 use lib.Bits.{and_mask}
 use Rattle.tables_rules.proofs.Rules.{port_high, mask_none, mask_tested}
-use borrow.Author.Rules.{rules}
 use Rattle.tables_rules.proofs.ports_sound.Goals as goal
 
 pub returns-then-port-ge-PORT_COUNT : goal.returns-then-port-ge-PORT_COUNT

@@ -3,7 +3,6 @@ use native.Mathlib.Omega.{arith}
 use lib.Dec.{lit<}
 use lib.Pow.{shl_exact}
 use Rattle.terms.specs.Terms.{bag}
-use borrow.Author.Rules.{rules}
 use Rattle.terms.proofs.bag_of.Goals as goal
 
 pub returns : goal.returns

@@ -1,6 +1,5 @@
 -- `charge`: with the line octets or without, by mode. Assumes nothing.
 use Rattle.terms.proofs.Limits.{charge_plain, charge_lined}
-use borrow.Author.Rules.{rules}
 use Rattle.terms.proofs.charge.Goals as goal
 
 pub returns-then-mode-lt-LINE_BYTE_MODE : goal.returns-then-mode-lt-LINE_BYTE_MODE

@@ -1,6 +1,5 @@
 -- `cost`: 0 for an unsound account, else the cost that the account's values give. Assumes nothing.
 use Rattle.account.proofs.Methods.{units_is, cost_none, cost_some}
-use borrow.Author.Rules.{rules}
 use Rattle.account.proofs.Account.cost.Goals as goal
 
 pub returns-then-capacity-eq0 : goal.returns-then-capacity-eq0

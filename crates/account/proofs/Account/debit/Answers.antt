@@ -1,6 +1,5 @@
 -- `debit`: one case for a credit that covers the cost, one for a credit that is short. Assumes nothing.
 use Rattle.account.proofs.Methods.{units_is, debit_enough, debit_short}
-use borrow.Author.Rules.{rules}
 use Rattle.account.proofs.Account.debit.Goals as goal
 
 pub returns-then-self-cost : goal.returns-then-self-cost

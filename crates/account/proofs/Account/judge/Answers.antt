@@ -2,7 +2,6 @@
 use mathlib.Core.Path.{ap}
 use Rattle.account.specs.declared.Account.{Account}
 use Rattle.account.proofs.Step.{judged_late, judged_short, judged_forwarded}
-use borrow.Author.Rules.{rules}
 use Rattle.account.proofs.Account.judge.Goals as goal
 
 pub returns-then-time-self : goal.returns-then-time-self

@@ -6,7 +6,6 @@ use Rattle.frame.specs.Frame.{length_code}
 use Rattle.account.specs.Step.{stepped, policed}
 use Rattle.account.proofs.Methods.{units_is, none_unsound, some_sound, some_capacity}
 use Rattle.account.proofs.Step.{police_length, police_judged}
-use borrow.Author.Rules.{rules}
 use Rattle.account.proofs.Account.police.Goals as goal
 
 -- the length's code is 0 after the first test

@@ -1,6 +1,5 @@
 -- `top_up`: the account is tested, then the time. Assumes nothing.
 use Rattle.account.proofs.Methods.{units_is, none_unsound, some_sound, some_capacity, top_up_unsound, top_up_late, top_up_sound}
-use borrow.Author.Rules.{rules}
 use Rattle.account.proofs.Account.top_up.Goals as goal
 
 pub returns-then-full-eq0 : goal.returns-then-full-eq0

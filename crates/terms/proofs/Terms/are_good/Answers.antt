@@ -1,6 +1,5 @@
 -- `are_good`: each return is a case of the definition. Assumes nothing.
 use Rattle.terms.proofs.Limits.{smax_below, smax_above, k_above, jitter_above, mode_tested}
-use borrow.Author.Rules.{rules}
 use Rattle.terms.proofs.Terms.are_good.Goals as goal
 
 pub returns-then-self-lt-SMALLEST_FRAME : goal.returns-then-self-lt-SMALLEST_FRAME

@@ -1,6 +1,5 @@
 -- `capacity`: 0 where a limit is broken; within the limits the sum and the product fit. Assumes nothing.
 use Rattle.terms.proofs.Methods.{limits_tested, none_full, window_fits, full_fits, full_given}
-use borrow.Author.Rules.{rules}
 use Rattle.terms.proofs.Terms.capacity.Goals as goal
 
 pub returns-then-not-are_good : goal.returns-then-not-are_good

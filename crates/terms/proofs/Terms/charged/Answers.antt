@@ -1,6 +1,5 @@
 -- `charged`: by mode. Assumes nothing.
 use Rattle.terms.proofs.Limits.{charged_octets, charged_smax}
-use borrow.Author.Rules.{rules}
 use Rattle.terms.proofs.Terms.charged.Goals as goal
 
 pub returns-then-by_octets : goal.returns-then-by_octets

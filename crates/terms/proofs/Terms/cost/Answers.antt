@@ -1,7 +1,6 @@
 -- `cost`: 0 where a limit is broken or no frame has the octets; otherwise the product fits. Assumes nothing.
 use native.Mathlib.Omega.{arith}
 use Rattle.terms.proofs.Methods.{none_charged, limits_tested, no_frame, frame_high, product_fits, product_given}
-use borrow.Author.Rules.{rules}
 use Rattle.terms.proofs.Terms.cost.Goals as goal
 
 pub returns-then-not-are_good : goal.returns-then-not-are_good

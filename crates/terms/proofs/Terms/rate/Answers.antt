@@ -1,6 +1,5 @@
 -- `rate`: the charge of Smax. Assumes nothing.
 use Rattle.terms.specs.Terms.{rate}
-use borrow.Author.Rules.{rules}
 use Rattle.terms.proofs.Terms.rate.Goals as goal
 
 pub returns : goal.returns
