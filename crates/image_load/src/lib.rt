@@ -8,6 +8,7 @@ ghost use Rattle.image_fill.specs.Filling.{runs_of};
 use image_read::ImageAnswer;
 
 // Whether runs of these lengths hold n accounts and m links.
+#[tactic(auto, unfolding(crate::specs::Loading::runs_hold))]
 fn runs_hold(n: u16, m: u16, accounts: usize, credits: usize, lasts: usize, links: usize) -> bool
     ensures { result ≡ runs_hold n m accounts credits lasts links }
 {

@@ -1,4 +1,4 @@
-// A reader: an image and a place in the image. These functions are proved by hand.
+// A reader: an image and a place in the image.
 #![tactic(auto)]
 
 ghost use Rattle.std.specs.Prelude.{◌≡◌};
