@@ -1,6 +1,6 @@
 -- Demand 2: the round trips, both ways, over the layout and through the very definitions that the contracts of `load` and `write`
 -- cite; proved in proofs/RoundTrips.antt.
-use Rattle.std.specs.Prelude.{ℕ, ◌+◌, ◌*◌, ◌^◌, ◌≤◌, ◌<◌, true, List, ◌≡◌, length, get_or, take, replicate}
+use Rattle.std.specs.Prelude.{ℕ, ◌*◌, ◌^◌, ◌≤◌, ◌<◌, true, List, ◌≡◌, length, get_or, take, replicate}
 use Rattle.octets.specs.Runs.{put}
 use Rattle.tables.specs.Rows.{Config, account_octets, link_octets, account_table, config_for, settings_of}
 use Rattle.image_layout.specs.Layout.{image_of}
