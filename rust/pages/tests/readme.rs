@@ -45,7 +45,7 @@ fn compiled(page: &str) -> PathBuf {
         ])
         .arg(root().join("include"))
         .arg(&source)
-        .arg(root().join("target/staticlib/libexports.a"))
+        .arg(root().join("crates/exports/out/libexports.a"))
         .arg("-o")
         .arg(&program)
         .output()
