@@ -77,7 +77,7 @@ module _ (a : Account) where
     pub some_capacity : (c ≡ 0 → ⊥) → c ≡ capacity (terms_of a)
     some_capacity h = e ∙ sym (capacity_is (some_sound h))
 
-  -- ---- the topped_up_lem credit, from a capacity and a rate
+  -- ---- the topped-up credit, from a capacity and a rate
   pub credit_at_lem : (t c r w : ℕ) → r ≡ rate (terms_of a) → w ≡ min c (a.credit + r * (t - a.last)) → w ≡ credit_up_to a c t
   unfolding credit_up_to
   credit_at_lem t c r w q e = e ∙ ap (λ (y : ℕ). min c (a.credit + y * (t - a.last))) q

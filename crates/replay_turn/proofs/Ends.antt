@@ -1,6 +1,6 @@
 -- A replay ends: each turn after the log's end leaves fewer octets at hand, or it is the last. Assumes nothing.
-use Prim.Native.Nat.{ℕ, zero, suc, ◌+◌, ◌-◌, ◌≤◌, ◌<◌}
-use mathlib.Core.Bool.{Bool, true, false, false≢true}
+use Prim.Native.Nat.{ℕ, zero, suc, ◌+◌, ◌≤◌, ◌<◌}
+use mathlib.Core.Bool.{Bool, true, false≢true}
 use mathlib.Core.List.{List, [], ◌∷◌, ◌++◌, append-nil, flat_map, Memᴰ}
 use mathlib.Core.Logic.{◌⊎◌, ⊎_elim, inl, inr}
 use mathlib.Core.Path.{◌≡◌, refl, sym, ap, ◌∙◌, subst}
@@ -13,7 +13,6 @@ use Rattle.lists.proofs.Tests.{split}
 use Rattle.tables.specs.Rows.{Config}
 use Rattle.switch.specs.Call.{State, called}
 use Rattle.replay_log.specs.Records.{frame_start, next_in}
-use Rattle.replay_log.specs.declared.FrameRecord.{FrameRecord}
 use Rattle.replay_log.specs.declared.Entry.{Entry}
 use Rattle.replay_log.specs.declared.Entry.TheVariants.{Frame, More, Cut, End}
 use Rattle.replay_log.proofs.Settled.{frame_inside, never_open}

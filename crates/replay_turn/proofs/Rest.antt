@@ -1,20 +1,18 @@
 -- A turn by the octets that are left: those before its offset play no part. Assumes nothing.
 use Prim.Native.Nat.{ℕ, zero, suc, ◌+◌, ◌-◌, ◌/◌, ◌≤◌}
-use mathlib.Core.Bool.{Bool, true, false, false≢true}
-use mathlib.Core.List.{List, [], ◌++◌}
+use mathlib.Core.Bool.{Bool, false, false≢true}
+use mathlib.Core.List.{List, ◌++◌}
 use mathlib.Core.Path.{◌≡◌, refl, sym, ap, ap₂, ◌∙◌}
 use native.Mathlib.Omega.{arith}
 use lib.Dec.{leb}
 use lib.ListN.{length, take, drop, take-append-drop, length-drop}
 use lib.Seq.{length-take-le, drop-drop}
-use Rattle.std.specs.Prelude.{if◌then◌else◌}
 use Rattle.lists.proofs.Tests.{split}
 use Rattle.tables.specs.Rows.{Config}
 use Rattle.switch.specs.Call.{State, Call, called}
 use Rattle.replay_text.specs.Text.{line_of}
 use Rattle.replay_log.specs.Claims.{moved}
 use Rattle.replay_log.specs.Records.{next_in}
-use Rattle.replay_log.specs.declared.FrameRecord.{FrameRecord}
 use Rattle.replay_log.specs.declared.Entry.{Entry}
 use Rattle.replay_log.specs.declared.Entry.TheVariants.{Frame, More, Cut, End}
 use Rattle.replay_log.proofs.Settled.{next_moved, frame_inside}

@@ -1,12 +1,9 @@
 -- Laws of a turn, one for each place where it ends, and of its start. Assumes nothing.
 use Prim.Native.Nat.{ℕ, suc, ◌+◌, ◌*◌, ◌-◌, ◌≤◌, ◌<◌}
 use mathlib.Core.Bool.{Bool}
-use mathlib.Core.List.{List, [], ◌∷◌, ◌++◌, append_assoc}
+use mathlib.Core.List.{List, [], ◌++◌, append_assoc}
 use mathlib.Core.Path.{◌≡◌, refl, sym, ap, ap₂, ◌∙◌, subst}
 use native.Mathlib.Omega.{arith}
-use types.Run.{OneOf, miss}
-use denote.Enum.Declared.{tag_of}
-use Rattle.replay_log.specs.contracts.Entry.{the_type}
 use lib.ListN.{length, length-append}
 use borrow.Author.Tests.{eq-eqb, ne_eqb, le-leb, lt-leb}
 use Rattle.octets.specs.Runs.{put}
@@ -69,10 +66,6 @@ module _ (d : List ℕ) (at k written : ℕ) where
 
   pub stop_frame : {e : Entry} (r : FrameRecord) → e ≡ Frame r → with_room (progress_of at k written Finished) d ≡ stopped_by d at k written e
   stop_frame r q = ap (stopped_by d at k written) (sym q)
-
--- an entry with another tag than a frame's is no frame
-pub other_tag : (e : Entry) → OneOf (1 ∷ 2 ∷ 3 ∷ []) (tag_of the_type e) → (r : FrameRecord) → e ≡ Frame r → ⊥
-other_tag e o r q = miss (1 ∷ 2 ∷ 3 ∷ []) 0 tt (subst (λ (x : Entry). OneOf (1 ∷ 2 ∷ 3 ∷ []) (tag_of the_type x)) q o)
 
 -- ---- a stretch by what stands next
 module _ (n : ℕ) (g : Config) (s : List ℕ) (w : Bool) (at k : ℕ) (t : State) where

@@ -1,6 +1,6 @@
 -- What holds of a replay whatever the log and however it is read (document 01, "The replay program"); proved in proofs/.
 use Rattle.std.specs.Prelude.{ℕ, ◌+◌, ◌^◌, ◌≤◌, ◌<◌, Bool, true, false, ◌≡◌, length, get_or, take, drop}
-use mathlib.Core.List.{List, [], ◌∷◌, ◌++◌, flat_map, Memᴰ}
+use mathlib.Core.List.{List, [], ◌++◌, flat_map, Memᴰ}
 use Rattle.std.specs.Prelude.{if◌then◌else◌}
 use Rattle.tables.specs.Rows.{Config}
 use Rattle.switch.specs.Call.{State, Call}

@@ -1,6 +1,6 @@
 -- Turns in figures (document 01, "The replay program"); proved in proofs/Figures.antt. A record of no frame octets is a frame of
 -- code 1 on any tables, so these hold of all.
-use Rattle.std.specs.Prelude.{ℕ, ◌+◌, true, false, List, [], ◌∷◌, ◌++◌, map, ◌≡◌}
+use Rattle.std.specs.Prelude.{ℕ, true, false, List, [], ◌∷◌, ◌++◌, map, ◌≡◌}
 use Rattle.tables.specs.Rows.{Config}
 use Rattle.switch.specs.Call.{State}
 use Rattle.replay_text.specs.Text.{refused_line, header_line}
