@@ -1,6 +1,5 @@
 -- `octet_at`: the octet, or 0 past the end. Assumes nothing.
 use mathlib.Core.Path.{sym}
-use borrow.Author.Rules.{rules}
 use lib.ListN.{get_or-eq_default}
 use Rattle.octets.proofs.octet_at.Goals as goal
 

@@ -1,7 +1,6 @@
 -- `u16_at`: 2 octets inside the run, or the first octet alone. Assumes nothing.
 use Rattle.octets.proofs.Numbers.{number_first}
 use Rattle.octets.proofs.Tests.{fits, fits_not}
-use borrow.Author.Rules.{rules}
 use Rattle.octets.proofs.u16_at.Goals as goal
 
 pub whole_u16-requires : goal.whole_u16-requires

@@ -2,7 +2,6 @@
 use mathlib.Core.Path.{sym}
 use Rattle.octets.proofs.Numbers.{number_past, number_halves}
 use Rattle.octets.proofs.Tests.{fits}
-use borrow.Author.Rules.{rules}
 use Rattle.octets.proofs.u64_at.Goals as goal
 
 pub whole_u64-requires : goal.whole_u64-requires

@@ -1,7 +1,6 @@
 -- `whole_u16`: the number of 2 octets is that of its two halves. Assumes nothing.
 use mathlib.Core.Path.{sym, ◌∙◌}
 use Rattle.octets.proofs.Numbers.{number_one, number_halves}
-use borrow.Author.Rules.{rules}
 use Rattle.octets.proofs.whole_u16.Goals as goal
 
 pub returns : goal.returns

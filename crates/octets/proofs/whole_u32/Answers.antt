@@ -1,6 +1,5 @@
 -- `whole_u32`: the number of 4 octets is that of its two halves. Assumes nothing.
 use Rattle.octets.proofs.Numbers.{number_halves}
-use borrow.Author.Rules.{rules}
 use Rattle.octets.proofs.whole_u32.Goals as goal
 
 pub returns : goal.returns

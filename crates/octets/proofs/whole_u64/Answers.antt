@@ -1,6 +1,5 @@
 -- `whole_u64`: the number of 8 octets is that of its two halves. Assumes nothing.
 use Rattle.octets.proofs.Numbers.{number_halves}
-use borrow.Author.Rules.{rules}
 use Rattle.octets.proofs.whole_u64.Goals as goal
 
 pub returns : goal.returns
