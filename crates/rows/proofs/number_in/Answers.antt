@@ -3,7 +3,6 @@ use Prim.Native.Nat.{◌+◌, ◌-◌}
 use mathlib.Core.Path.{◌∙◌}
 use native.Mathlib.Omega.{arith}
 use Rattle.octets.proofs.Parts.{number_within}
-use borrow.Author.Rules.{rules}
 use Rattle.rows.proofs.number_in.Goals as goal
 
 pub returns : goal.returns

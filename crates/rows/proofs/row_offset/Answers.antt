@@ -3,7 +3,6 @@ use native.Mathlib.Nat.{min-le_right}
 use native.Mathlib.Omega.{arith}
 use lib.ListN.{length}
 use Rattle.rows.proofs.Rows.{small_step}
-use borrow.Author.Rules.{rules}
 use Rattle.rows.proofs.row_offset.Goals as goal
 
 pub overflow_mul-result : goal.overflow_mul-result

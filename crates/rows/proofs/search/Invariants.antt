@@ -1,16 +1,9 @@
 -- `search`: two rows a turn, then the one row that may be left. The loop's invariant: none of the first i rows has the
 -- number. Assumes nothing.
-use Prim.Native.Nat.{ℕ, suc, ◌+◌, ◌*◌, ◌-◌, ◌≤◌, ◌<◌}
+use Prim.Native.Nat.{◌-◌, ◌≤◌}
 use mathlib.Core.Path.{◌≡◌}
-use native.Mathlib.Numerals.{add-one}
-use native.Mathlib.Omega.{arith}
-use lib.ListN.{length}
 use Rattle.lists.specs.Leading.{leading}
-use Rattle.lists.proofs.Leading.{leading_zero}
-use Rattle.octets.proofs.Parts.{row_below}
 use Rattle.rows.specs.Rows.{table_of, other_number}
-use Rattle.rows.proofs.Finding.{search_on, search_hit, search_miss}
-use borrow.Author.Rules.{rules}
 use Rattle.rows.proofs.search.Given as goal
 
 abbrev pub invariant-loop-i : goal.invariant-loop-i
