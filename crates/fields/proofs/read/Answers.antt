@@ -1,6 +1,5 @@
 -- `read`: all zeros past the end, else part by part. Assumes nothing.
 use Rattle.fields.proofs.Fields.{field_past, field_is}
-use borrow.Author.Rules.{rules}
 use Rattle.fields.proofs.read.Goals as goal
 
 pub returns-then-run-at : goal.returns-then-run-at

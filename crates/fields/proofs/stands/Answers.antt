@@ -5,7 +5,6 @@ use lib.ListN.{length}
 use Rattle.octets.proofs.Tests.{fits, fits_not}
 use Rattle.fields.specs.Fields.{tag_and_length}
 use Rattle.fields.proofs.Fields.{stands_not, stands_other, stands_tested}
-use borrow.Author.Rules.{rules}
 use Rattle.fields.proofs.stands.Goals as goal
 use Rattle.fields.proofs.stands.Goals.{Else-not-has_room}
 
