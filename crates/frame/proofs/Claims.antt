@@ -9,12 +9,12 @@ use native.Mathlib.Omega.{arith}
 use lib.Dec.{ltb}
 use Rattle.lists.specs.Lines.{first_fit}
 use Rattle.lists.proofs.Tests.{split}
-use lib.ListN.{length, get_or, take, drop, length-append, length-drop}
+use lib.ListN.{length, take, drop, length-append, length-drop}
 use lib.Seq.{length-take-le, take_at, drop_at, get_or_at}
 use Rattle.octets.specs.Numbers.{number_at}
 use Rattle.octets.specs.Spelled.{spelled, Fit}
 use Rattle.octets.proofs.Spelled.{spelled_reads, length_spelled}
-use Rattle.frame.specs.Frame.{length_code, link_number, sequence_number, sequence_offset, header_of, payload_start, payload_of, payload_place}
+use Rattle.frame.specs.Frame.{length_code, sequence_number, sequence_offset, header_of, payload_start, payload_of, payload_place}
 use Rattle.frame.specs.Claims.{LengthLimits, ReadingCodes, ReadingAnswers, ReadingRefused, PayloadLength, head_parts, frame_of, FrameRead, FrameReadsBack, FrameFigures}
 use Rattle.frame.specs.declared.Header.{Header}
 use Rattle.frame.proofs.Frame.{by_length, within, length_good, header_code, header_refused, header_read, payload_refused, payload_read}

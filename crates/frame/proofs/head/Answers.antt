@@ -4,7 +4,6 @@ use Prim.Native.Nat.{◌≤◌}
 use native.Mathlib.Omega.{arith}
 use lib.ListN.{length}
 use Rattle.frame.specs.Limits.{smallest_frame}
-use borrow.Author.Rules.{rules}
 use Rattle.frame.proofs.head.Goals as goal
 use Rattle.frame.proofs.head.Goals.{Else-code-ne-SUCCESS}
 

@@ -4,7 +4,6 @@ use Rattle.frame.proofs.Frame.{payload_refused, payload_read, long_enough_lem}
 use Prim.Native.Nat.{◌≤◌}
 use native.Mathlib.Omega.{arith}
 use lib.ListN.{length}
-use borrow.Author.Rules.{rules}
 use Rattle.frame.specs.Limits.{smallest_frame}
 use Rattle.frame.proofs.payload.Goals as goal
 use Rattle.frame.proofs.payload.Goals.{Else-length_code-ne-SUCCESS}
