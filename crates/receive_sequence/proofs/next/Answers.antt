@@ -1,6 +1,5 @@
 -- `next`: one case for the greatest number, one for any other. Assumes nothing.
 use Rattle.receive_sequence.proofs.Passing.{next_wraps, next_adds}
-use borrow.Author.Rules.{rules}
 use Rattle.receive_sequence.proofs.next.Goals as goal
 
 pub returns-then-number-eq-GREATEST_NUMBER : goal.returns-then-number-eq-GREATEST_NUMBER

@@ -1,6 +1,5 @@
 -- `passes`: test by test; the last number is held in a word. Assumes nothing.
 use Rattle.receive_sequence.proofs.Passing.{passes_first, passes_zero, passes_forged, passes_one, passes_two}
-use borrow.Author.Rules.{rules}
 use Rattle.receive_sequence.proofs.passes.Goals as goal
 
 pub returns-then-held-eq0 : goal.returns-then-held-eq0
