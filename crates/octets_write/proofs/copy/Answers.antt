@@ -2,7 +2,6 @@
 use Rattle.octets.proofs.Parts.{length_part}
 use Rattle.octets.proofs.Runs.{put_refused}
 use Rattle.octets.proofs.Tests.{fits}
-use borrow.Author.Rules.{rules}
 use Rattle.octets_write.proofs.copy.Goals as goal
 
 pub returns-then-not-has_room : goal.returns-then-not-has_room

@@ -1,12 +1,10 @@
 -- `copy_padded`: the part octet by octet. The loop's invariant: the first i octets are written. Assumes nothing.
-use Prim.Native.Nat.{◌-◌}
 use mathlib.Core.Path.{refl}
 use native.Mathlib.Nat.{min-le_right}
 use native.Mathlib.Omega.{arith}
 use lib.ListN.{length}
 use Rattle.octets.proofs.Parts.{get_d_from}
-use Rattle.octets.proofs.Filled.{Filled, octet_from, part_ones, fill_start, fill_one, fill_end}
-use borrow.Author.Rules.{rules}
+use Rattle.octets.proofs.Filled.{part_ones, fill_start, fill_one, fill_end}
 use Rattle.octets_write.proofs.copy_padded.Goals as goal
 use Rattle.octets_write.proofs.copy_padded.Goals.{After-least-start}
 

@@ -1,8 +1,7 @@
 -- `copy_whole`: the part octet by octet. The loop's invariant: the first i octets are written. Assumes nothing.
-use Prim.Native.Nat.{◌-◌}
 use mathlib.Core.Path.{refl}
 use native.Mathlib.Omega.{arith}
-use Rattle.octets.proofs.Filled.{Filled, octet_from, part_ones, fill_start, fill_one, fill_end}
+use Rattle.octets.proofs.Filled.{part_ones, fill_start, fill_one, fill_end}
 use Rattle.octets_write.proofs.copy_whole.Goals as goal
 
 pub loop-i-init : goal.loop-i-init

@@ -2,7 +2,6 @@
 use Prim.Native.Nat.{◌+◌, ◌≤◌}
 use native.Mathlib.Omega.{arith}
 use lib.ListN.{length, length-set}
-use borrow.Author.Rules.{rules}
 use Rattle.octets.proofs.Numbers.{length_octets}
 use Rattle.octets.proofs.Runs.{put_refused, put_two}
 use Rattle.octets.proofs.Tests.{fits}
