@@ -1,10 +1,10 @@
 -- Copies and their deliveries, in words. Assumes nothing.
-use Prim.Native.Nat.{ℕ, ◌+◌, ◌-◌, ◌≤◌, ◌<◌}
-use mathlib.Core.Bool.{true, false, not, false≢true}
+use Prim.Native.Nat.{ℕ, ◌-◌, ◌≤◌, ◌<◌}
+use mathlib.Core.Bool.{true, false, false≢true}
 use mathlib.Core.List.Memᴰ
 use mathlib.Core.List.{List, [], ◌∷◌, ◌++◌, head-eq_of_cons-eq, tail-eq_of_cons-eq, Memᴰ}
 use mathlib.Core.Logic.{◌⊎◌, inl, inr, ⊎_elim}
-use mathlib.Core.Option.{Option, none, some}
+use mathlib.Core.Option.{Option, some}
 use mathlib.Core.Path.{◌≡◌, refl, sym, ap, ◌∙◌, subst}
 use native.Mathlib.Omega.{arith}
 use lib.ListN.{length}
@@ -252,7 +252,7 @@ rule_out : (skew : ℕ) (p : List Answered) (f : Arrival) → newest_time p ≤ 
 unfolding rule_on
 rule_out skew p f h e =
     sym (reception_out skew (newest_time p) (newest_number f.network p) (unmet (other f.network) f.number p) f.number f.time h
-    (passes (newest_number f.network p) f.number) refl (ap not e))
+    (passes (newest_number f.network p) f.number) refl e)
 
 pub others_in_words : OtherReceptionsInWords
 others_in_words rows r z before o f h =
