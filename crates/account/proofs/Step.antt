@@ -34,7 +34,7 @@ module _ (a : Account) (c x t : ℕ) where
   unfolding judged_at
   judged_late h = simp (lt-ltb _ _ h)
 
-  -- w is the topped_up_lem credit
+  -- w is the topped-up credit
   module _ (h : a.last ≤ t) (w : ℕ) (p : w ≡ credit_up_to a c t) where
     pub judged_short : w < x → stepped (Short w) (holding a w t) ≡ judged_at a c x t
     unfolding judged_at judged

@@ -1,5 +1,5 @@
 -- The token bucket and the rule that names no credit: the stored credit of a bucket of any depth and rate is a function
--- `held` of the frames that reached the bucket, and a cost is at most the topped_up_lem credit exactly where the rule holds
+-- `held` of the frames that reached the bucket, and a cost is at most the topped-up credit exactly where the rule holds
 -- from each of these frames. Assumes nothing.
 use Prim.Native.Nat.{ℕ, zero, suc, ◌+◌, ◌-◌, ◌*◌, ◌≤◌, ◌<◌, min}
 use mathlib.Core.Bool.{Bool, true, ◌&&◌, and-true}
@@ -105,7 +105,7 @@ module _ (depth rate : ℕ) where
           (λ e. from_long (leb-true _ _ e))
           (λ e. let l : y + f < gain t u = leb-false _ _ e in from_short (omega arith))
 
-    -- the rule holds for a cost exactly where the topped_up_lem credit is at least that cost
+    -- the rule holds for a cost exactly where the topped-up credit is at least that cost
     credit_test : (past : List Reached) (t y : ℕ) → Sound past → last_time past ≤ t → (leb y depth && holds_from allow t y past) ≡ leb y (topped past t)
     unfolding holds_from last_time held topped
     credit_test [] t y s h = and-true _ ∙ leb_same y depth y (min depth (depth + gain t 0)) (λ x. omega arith) (λ x. omega arith)

@@ -63,7 +63,7 @@ module _ (p : Terms) where
     unfolding credit_up_to topped gain
     credit_is t = refl
 
-    -- the rule's test is the test of the topped_up_lem credit
+    -- the rule's test is the test of the topped-up credit
     rule_is : (x t : ℕ) → last_time past ≤ t → rule_holds (allowance p) t x past ≡ leb x (credit_at (state past) t)
     rule_is x t h =
         bucket-rule (capacity p) (rate p) (allowance p) allowance_is past x t s h ∙ ap (leb x) (sym (credit_is t))

@@ -46,7 +46,7 @@ abbrev pub frame_cases : List Case
 frame_cases = case 64 0 0 100000 ∷ []
 
 -- case 1; cases 2 to 10; case 11; the cost of case 3, both sides of the rule from the first frame of case 4, and the
--- topped_up_lem credit of case 10
+-- topped-up credit of case 10
 abbrev pub BenchTable : Type 0
 BenchTable =
     (capacity_of (loaded (terms_p byte_mode)) ≡ 300000)

@@ -24,6 +24,7 @@ pub struct Header {
 }
 
 // The code of a frame by its length alone: 1 too short, 2 too long, else 0.
+#[tactic(auto, unfolding(crate::specs::Frame::length_code))]
 pub fn length_code(octets: usize) -> u8
     ensures { result ≡ length_code octets }
 {

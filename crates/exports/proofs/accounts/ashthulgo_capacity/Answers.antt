@@ -2,7 +2,6 @@
 use mathlib.Core.Path.{ap, ◌∙◌}
 use Rattle.account.specs.Account.{capacity_of}
 use Rattle.account.proofs.Methods.{units_is}
-use borrow.Author.Rules.{rules}
 use Rattle.exports.proofs.accounts.ashthulgo_capacity.Goals as goal
 
 pub returns : goal.returns

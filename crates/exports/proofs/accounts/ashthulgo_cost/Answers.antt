@@ -3,7 +3,6 @@ use mathlib.Core.Path.{ap, ◌∙◌}
 use Rattle.account.specs.Account.{cost_of}
 use Rattle.account.specs.declared.Account.{Account}
 use Rattle.account.proofs.Methods.{units_is}
-use borrow.Author.Rules.{rules}
 use Rattle.exports.proofs.accounts.ashthulgo_cost.Goals as goal
 
 pub returns : goal.returns

@@ -1,6 +1,5 @@
 -- `ashthulgo_police`: the step of the account made. Assumes nothing.
 use Rattle.exports.proofs.Answers.{police_done}
-use borrow.Author.Rules.{rules}
 use Rattle.exports.proofs.accounts.ashthulgo_police.Goals as goal
 
 pub returns : goal.returns

@@ -1,6 +1,5 @@
 -- `ashthulgo_police_in_place`: the step of the account made and lent. Assumes nothing.
 use Rattle.exports.proofs.Answers.{police_done}
-use borrow.Author.Rules.{rules}
 use Rattle.exports.proofs.accounts.ashthulgo_police_in_place.Goals as goal
 
 pub returns : goal.returns

@@ -1,6 +1,5 @@
 -- `ashthulgo_top_up`: the account made, brought to the time. Assumes nothing.
 use Rattle.exports.proofs.Answers.{top_up_done}
-use borrow.Author.Rules.{rules}
 use Rattle.exports.proofs.accounts.ashthulgo_top_up.Goals as goal
 
 pub returns : goal.returns

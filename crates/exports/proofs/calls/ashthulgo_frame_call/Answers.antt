@@ -1,6 +1,5 @@
 -- `ashthulgo_frame_call`: the frame call in numbers. Assumes nothing.
 use Rattle.exports.proofs.Answers.{call_done_lem}
-use borrow.Author.Rules.{rules}
 use Rattle.exports.proofs.calls.ashthulgo_frame_call.Goals as goal
 
 pub returns : goal.returns

@@ -1,7 +1,6 @@
 -- `ashthulgo_read_frame`: the header, and the length of the payload. Assumes nothing.
 use mathlib.Core.Path.{ap}
 use lib.ListN.{length}
-use borrow.Author.Rules.{rules}
 use Rattle.exports.proofs.frames.ashthulgo_read_frame.Goals as goal
 
 pub returns : goal.returns

@@ -1,6 +1,5 @@
 -- `ashthulgo_check`: what reading answers, reported. Assumes nothing.
 use mathlib.Core.Path.{◌∙◌}
-use borrow.Author.Rules.{rules}
 use Rattle.exports.proofs.images.ashthulgo_check.Goals as goal
 
 pub returns : goal.returns

@@ -1,6 +1,5 @@
 -- `ashthulgo_load`: what loading answers, reported. Assumes nothing.
 use Rattle.exports.proofs.Answers.{load_done}
-use borrow.Author.Rules.{rules}
 use Rattle.exports.proofs.images.ashthulgo_load.Goals as goal
 
 pub returns : goal.returns

@@ -1,6 +1,5 @@
 -- `ashthulgo_reader_load`: what loading through a reader answers, reported, and the reader's place. Assumes nothing.
 use Rattle.exports.proofs.Answers.{load_done, place_done}
-use borrow.Author.Rules.{rules}
 use Rattle.exports.proofs.images.ashthulgo_reader_load.Goals as goal
 
 pub returns : goal.returns
