@@ -67,7 +67,8 @@ fn output(program: &mut Command) -> Vec<u8> {
 /// The two programs on a folder: the proved one runs in it, this one gets its path.
 fn programs(folder: &Path) -> (Command, Command) {
     let proved = Path::new(env!("CARGO_MANIFEST_DIR")).join("../../crates/replay/out/replay");
-    let proved = fs::canonicalize(&proved).expect("crates/replay/out/replay: `rt run` in crates/replay builds it");
+    let proved = fs::canonicalize(&proved)
+        .expect("crates/replay/out/replay: `rt run` in crates/replay builds it");
     let this = std::env::current_exe().expect("a path");
     let (mut a, mut b) = (Command::new(proved), Command::new(this));
     a.current_dir(folder);

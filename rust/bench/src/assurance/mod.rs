@@ -156,8 +156,7 @@ fn runs_within(program: &Path, folder: &Path, kib: u32) -> Result<bool, String> 
 /// The replay program: its stack by its listing, and the least limit of the stack under which it replays a rig.
 fn print_program() -> Result<(), String> {
     let (object, program) = (built("replay/out/replay.o"), built("replay/out/replay"));
-    let missing =
-        |_| "crates/replay/out/replay is missing: `rt run` in crates/replay builds it";
+    let missing = |_| "crates/replay/out/replay is missing: `rt run` in crates/replay builds it";
     let program = program.canonicalize().map_err(missing)?;
     let listing = Listing::of(&object)?;
     print_object("replay", &object, &listing)?;
