@@ -1,7 +1,7 @@
 /*
  * Ashthulgo: the policing core of an AFDX switch and the receiving end of an end system, as a static library.
  *
- * `rt lib`, in crates/exports, writes crates/exports/out/libexports.a; link that file. It is for x86-64 only (Linux, System V
+ * `rt lib`, in crates/exports, writes crates/exports/out/libexports.a; link that file. It is for x86-64-v2 only (Linux, System V
  * calls), needs nothing but the C library, and allocates nothing. Each function is proved to meet its contract for every
  * input, as long as its caller keeps the rules of the section "Memory". The contracts are in crates/exports/src.
  *
