@@ -1,7 +1,7 @@
 // Printing of words and of numbers; each number has a blank before it.
 use std::io::{Print, Stdout};
 
-// Prints words. A failed write goes unsaid, as the text then lacks them.
+// Prints words. Where a write fails the output lacks them, and nothing says so.
 pub(crate) fn text(out: Stdout, words: &[u8]) {
     let _ = out.write_all(words);
 }
