@@ -27,6 +27,7 @@ fn ports_sound(port: u8, mask: u32) -> bool
 }
 
 // Whether frame sizes rise from the smallest frame to Smax.
+#[tactic(auto, unfolding(crate::specs::Rules::sizes_sound))]
 fn sizes_sound(smallest: u16, largest: u16, smax: u16) -> bool
     ensures { result ≡ sizes_sound smallest largest smax }
 {

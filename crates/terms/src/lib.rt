@@ -63,6 +63,7 @@ fn by_octets(mode: u8) -> bool
 
 impl Terms {
     // Whether the values keep their limits.
+    #[tactic(auto, unfolding(crate::specs::Terms::terms_good))]
     pub fn are_good(self) -> bool
         ensures { result ≡ terms_good self }
     {

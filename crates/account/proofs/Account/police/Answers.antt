@@ -1,6 +1,7 @@
 -- `police`: the length is tested, then the account; `judge` decides the rest. Assumes nothing.
 use Prim.Native.Nat.{ℕ}
 use mathlib.Core.Path.{◌≡◌, sym, ap, ◌∙◌}
+use borrow.Author.Rules.{rules}
 use borrow.Author.Tests.{eq-eqb}
 use Rattle.frame.specs.Frame.{length_code}
 use Rattle.account.specs.Step.{stepped, policed}
@@ -25,7 +26,8 @@ returns-then-capacity-eq0 c =
 
 pub returns : goal.returns
 returns c =
+    let some : c.capacity-capacity.result.units ≡ 0 → ⊥ = search rules in
     ap (stepped c.judge-step.result.outcome) c.holding.ensures
     ∙ c.judge-step.ensures
-    ∙ police_judged _ _ _ (good _ _ c.length_code-code.ensures c.if-code-ne-SUCCESS.false) (some_sound _ _ (units_is _ _ _ c.capacity-capacity.ensures) c.if-capacity-eq0.false) _ _
-    (some_capacity _ _ (units_is _ _ _ c.capacity-capacity.ensures) c.if-capacity-eq0.false) c.cost.ensures
+    ∙ police_judged _ _ _ (good _ _ c.length_code-code.ensures c.if-code-ne-SUCCESS.false) (some_sound _ _ (units_is _ _ _ c.capacity-capacity.ensures) some) _ _
+    (some_capacity _ _ (units_is _ _ _ c.capacity-capacity.ensures) some) c.cost.ensures
