@@ -52,6 +52,7 @@ fn charge(mode: u8, octets: u16) -> u32
 }
 
 // Whether the mode charges a frame by its own octets.
+#[tactic(auto, unfolding(crate::specs::Terms::by_octets))]
 fn by_octets(mode: u8) -> bool
     ensures { result ≡ by_octets mode }
 {
