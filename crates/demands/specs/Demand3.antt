@@ -46,7 +46,8 @@ abbrev pub RuleInWords : Type 0
 RuleInWords =
     (s : List ℕ) (r : Runs) → Fresh s r → (before : List Call) (f : Call) → filter_code s f ≡ 0
     → last_time (reached_in s (reverse before) (account_named s (link_row s f))) ≤ f.time
-    → Judged s (reverse before) f (account_named s (link_row s f)) (called (config_in s r) (final_state (config_in s r) (state_in r) before) f).says.code
+    → Judged s (reverse before) f (account_named s (link_row s f))
+    (called (config_in s r) (final_state (config_in s r) (state_in r) before) f).says.code
 
 -- and of every other frame: the filter's code, or 8 where a frame that reached the account is later
 abbrev pub OthersInWords : Type 0
