@@ -1,5 +1,4 @@
 pub mod Claims
 pub mod Codes
 pub mod Methods
-pub mod Refill
 pub mod Step

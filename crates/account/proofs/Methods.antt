@@ -1,17 +1,20 @@
 -- Laws of an account's methods, case by case. Assumes nothing.
-use Prim.Native.Nat.{ℕ, ◌+◌, ◌-◌, ◌*◌, ◌≤◌, ◌<◌, min}
+use Prim.Native.Nat.{ℕ, ◌-◌, ◌≤◌, ◌<◌}
 use mathlib.Core.Bool.{true, false, ◌&&◌}
-use mathlib.Core.Path.{◌≡◌, sym, ap, ap₂, ◌∙◌}
+use mathlib.Core.Path.{◌≡◌, refl, ap, ap₂, ◌∙◌}
 use native.Mathlib.Nat.{min-le_left}
 use native.Mathlib.Omega.{arith}
 use lib.Dec.{leb, eqb}
 use borrow.Author.Tests.{leb-true, le-leb, lt-leb, eq-eqb, ne_eqb}
-use Rattle.std.specs.Prelude.{if◌then◌else◌}
+use Rattle.std.specs.Prelude.{Ok, Err, if◌then◌else◌}
+use Rattle.codes.specs.Refused.{number_of}
+use Rattle.codes.specs.declared.Refusal.{Refusal}
+use Rattle.codes.specs.declared.Refusal.TheVariants.{Unsound}
 use Rattle.lists.proofs.Tests.{split, both}
 use Rattle.frame.specs.Frame.{length_code}
-use Rattle.terms.specs.Terms.{terms_good, rate, capacity, cost, checked_capacity, checked_cost}
+use Rattle.terms.specs.Terms.{terms_good, capacity, cost, checked_capacity, checked_cost}
 use Rattle.terms.proofs.Limits.{limits, capacity_low}
-use Rattle.account.specs.Account.{terms_of, holding, account_sound, credit_at, credit_up_to, capacity_of, cost_of, measured, topped_up, debited}
+use Rattle.account.specs.Account.{terms_of, holding, account_sound, credit_at, credit_up_to, capacity_of, sound_capacity, cost_of, topped_up, debited}
 use Rattle.account.specs.declared.Account.{Account}
 use Rattle.account.specs.declared.Measured.{Measured}
 
@@ -42,46 +45,38 @@ module _ (a : Account) where
   unfolding capacity_of
   capacity_is v = simp v
 
-  -- the account's capacity from that of its values, which is 0 where the values break a limit
-  capacity_by : (if leb a.credit (checked_capacity (terms_of a)) then checked_capacity (terms_of a) else 0) ≡ capacity_of a
-  unfolding account_sound capacity_of checked_capacity
-  capacity_by =
-      split (terms_good (terms_of a))
-      (λ e. simp e)
-      (λ e. split (leb a.credit 0) (λ l. simp (e, l)) (λ l. simp (e, l)))
+  -- the capacity by the limits and the credit, and the capacity of the values by the limits
+  pub capacity_above : terms_good (terms_of a) ≡ true → 0 < capacity (terms_of a)
+  capacity_above e = omega (arith, capacity_low (terms_of a) (limits (terms_of a) e))
 
-  module _ (full : ℕ) (f : full ≡ checked_capacity (terms_of a)) where
-    pub credit_over : full < a.credit → measured 0 a ≡ measured (capacity_of a) a
-    credit_over h = rw (← capacity_by) (simp (← f, lt-leb _ _ h))
+  pub sound_capacity_is : sound_capacity a ≡ (if terms_good (terms_of a) && leb a.credit (capacity (terms_of a)) then Ok (capacity (terms_of a)) else Err Unsound)
+  unfolding account_sound sound_capacity
+  sound_capacity_is = refl
 
-    pub credit_within : a.credit ≤ full → measured full a ≡ measured (capacity_of a) a
-    credit_within h = rw (← capacity_by) (simp (← f, le-leb _ _ h))
+  pub checked_capacity_is : checked_capacity (terms_of a) ≡ (if terms_good (terms_of a) then capacity (terms_of a) else 0)
+  unfolding checked_capacity
+  checked_capacity_is = refl
 
-  -- ---- what a capacity that was answered says of the account
-  module _ (c : ℕ) (e : c ≡ capacity_of a) where
-    pub none_unsound : c ≡ 0 → account_sound a ≡ false
-    none_unsound z =
-        split (account_sound a)
-        (λ v.
-        let l = capacity_low (terms_of a) (limits (terms_of a) (sound_limits v)) in
-        let k = capacity_is v in
-        absurd (omega arith))
-        (λ v. v)
+  -- ---- what a capacity that was answered says of the account, and what a refusal says
+  module _ (c : ℕ) (e : Ok c ≡ sound_capacity a) where
+    pub some_sound : account_sound a ≡ true
+    unfolding sound_capacity
+    some_sound = split (account_sound a) (λ v. v) (λ v. let f = simp v at e in absurd (cc f))
 
-    pub some_sound : (c ≡ 0 → ⊥) → account_sound a ≡ true
-    some_sound h =
-        split (account_sound a)
-        (λ v. v)
-        (λ v. absurd (h (e ∙ sym (capacity_not v))))
+    pub some_capacity : c ≡ capacity (terms_of a)
+    unfolding sound_capacity
+    some_capacity = let f = simp some_sound at e in cc f
 
-    pub some_capacity : (c ≡ 0 → ⊥) → c ≡ capacity (terms_of a)
-    some_capacity h = e ∙ sym (capacity_is (some_sound h))
+  module _ (r : Refusal) (e : Err r ≡ sound_capacity a) where
+    pub none_unsound : account_sound a ≡ false
+    unfolding sound_capacity
+    none_unsound = split (account_sound a) (λ v. let f = simp v at e in absurd (cc f)) (λ v. v)
 
-  -- ---- the topped-up credit, from a capacity and a rate
-  pub credit_at_lem : (t c r w : ℕ) → r ≡ rate (terms_of a) → w ≡ min c (a.credit + r * (t - a.last)) → w ≡ credit_up_to a c t
-  unfolding credit_up_to
-  credit_at_lem t c r w q e = e ∙ ap (λ (y : ℕ). min c (a.credit + y * (t - a.last))) q
+    pub none_number : number_of r ≡ 10
+    unfolding sound_capacity
+    none_number = let f = simp none_unsound at e in let g : r ≡ Unsound = cc f in ap number_of g
 
+  -- ---- the topped-up credit
   -- a credit at or above the capacity is topped up to the capacity
   pub credit_full : (t c : ℕ) → c ≤ a.credit → c ≡ credit_up_to a c t
   unfolding credit_up_to
@@ -97,13 +92,6 @@ module _ (a : Account) where
 
   -- ---- top-up: b is the account that the code gives
   module _ (t : ℕ) where
-    module _ (c : ℕ) (b : Account) where
-      pub brought_full : c ≤ a.credit → b ≡ holding a c t → b ≡ holding a (credit_up_to a c t) t
-      brought_full h f = f ∙ ap (λ (x : ℕ). holding a x t) (credit_full t c h)
-
-      pub brought_refilled : (w : ℕ) → w ≡ credit_up_to a c t → b ≡ holding a w t → b ≡ holding a (credit_up_to a c t) t
-      brought_refilled w e f = f ∙ ap (λ (x : ℕ). holding a x t) e
-
     pub top_up_unsound : account_sound a ≡ false → a ≡ topped_up a t
     unfolding topped_up
     top_up_unsound v = simp v
@@ -130,16 +118,9 @@ module _ (a : Account) where
     unfolding cost_of
     cost_sound z v = simp (eq-eqb _ _ z, v)
 
-    cost_checked : account_sound a ≡ true → checked_cost (terms_of a) n ≡ cost_of a n
+    pub cost_checked : account_sound a ≡ true → checked_cost (terms_of a) n ≡ cost_of a n
     unfolding checked_cost cost_of
     cost_checked v = split (eqb (length_code n) 0) (λ z. simp (z, v, sound_limits v)) (λ z. simp (z, sound_limits v))
-
-    module _ (full : ℕ) (f : full ≡ capacity_of a) where
-      pub cost_none : full ≡ 0 → measured 0 a ≡ measured (cost_of a n) a
-      cost_none z = ap (λ (x : ℕ). measured x a) (cost_unsound (none_unsound full f z))
-
-      pub cost_some : (full ≡ 0 → ⊥) → (x : ℕ) → x ≡ checked_cost (terms_of a) n → measured x a ≡ measured (cost_of a n) a
-      cost_some h x e = ap (λ (y : ℕ). measured y a) (e ∙ cost_checked (some_sound full f h))
 
     module _ (x : ℕ) (e : x ≡ cost_of a n) where
       pub debit_short : a.credit < x → a ≡ debited a n
@@ -149,3 +130,8 @@ module _ (a : Account) where
       pub debit_enough : x ≤ a.credit → (b : Account) → b ≡ holding a (a.credit - x) a.last → b ≡ debited a n
       unfolding debited
       debit_enough h b f = f ∙ simp (← e, le-leb _ _ h)
+
+-- the laws of a capacity by its values, and of a cost by the account's soundness
+pub ruleset by_values = (capacity_above, sound_capacity_is, checked_capacity_is)
+
+pub ruleset by_soundness = (cost_checked, cost_unsound)

@@ -1,6 +1,8 @@
 -- An account with its credit and last time, and what its methods give (document 01, "Credit, in whole units").
-use Rattle.std.specs.Prelude.{ℕ, ◌+◌, ◌-◌, ◌*◌, min, Bool, ◌&&◌, leb, eqb}
+use Rattle.std.specs.Prelude.{ℕ, ◌+◌, ◌-◌, ◌*◌, min, Bool, ◌&&◌, leb, eqb, Result, Ok, Err}
 use Rattle.codes.specs.Codes
+use Rattle.codes.specs.declared.Refusal.{Refusal}
+use Rattle.codes.specs.declared.Refusal.TheVariants.{Unsound}
 use Rattle.std.specs.Prelude.{if◌then◌else◌}
 use Rattle.frame.specs.Frame.{length_code}
 use Rattle.terms.specs.Terms.{terms_good, rate, capacity, cost}
@@ -40,6 +42,10 @@ credit_at a t = credit_up_to a (capacity (terms_of a)) t
 
 unfoldable pub capacity_of : Account → ℕ
 capacity_of a = if account_sound a then capacity (terms_of a) else 0
+
+-- the capacity of a sound account; one that is not is refused
+unfoldable pub sound_capacity : Account → Result ℕ Refusal
+sound_capacity a = if account_sound a then Ok (capacity (terms_of a)) else Err Unsound
 
 unfoldable pub cost_of : Account → ℕ → ℕ
 cost_of a n = if eqb (length_code n) Codes.success && account_sound a then cost (terms_of a) n else 0

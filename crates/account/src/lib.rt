@@ -4,13 +4,14 @@
 #![tactic(auto)]
 
 ghost use Rattle.std.specs.Prelude.{◌≡◌, ◌+◌, ◌*◌, ◌≤◌, min};
-ghost use Rattle.account.specs.Account.{holding, credit_up_to, capacity_of, cost_of, measured, topped_up, debited};
-ghost use Rattle.account.specs.Step.{stepped, stepped_of, judged_at, policed};
+ghost use Rattle.account.specs.Account.{holding, credit_up_to, capacity_of, sound_capacity, cost_of, measured, topped_up, debited};
+ghost use Rattle.account.specs.Step.{stepped, stepped_of, step_of, judged_at, policed, outcome_code, outcome_credit};
 
+use codes::Refusal;
 use terms::Terms;
 
 // An elapsed time in which any rate but 0 adds more than a credit can hold.
-const LONG_ELAPSED: u64 = 4294967296;
+const LONG_ELAPSED: u64 = 1 << 32;
 
 // The configured values, the credit, and the time of the last frame that reached the account.
 #[derive(Clone, Copy)]
@@ -29,12 +30,36 @@ pub struct Measured {
 
 // The answer of a policing step: forwarded with the credit left, short or late with the credit held, or refused
 // with its code.
-#[derive(Clone, Copy)]
+#[derive(Clone, Copy, Debug, PartialEq, Eq)]
 pub enum Outcome {
     Forwarded(u32),
     Short(u32),
     Late(u32),
-    Refused(u8),
+    Refused(Refusal),
+}
+
+impl Outcome {
+    // The answer's code.
+    pub fn code(self) -> u8
+        ensures { result ≡ outcome_code self }
+    {
+        match self {
+            Self::Forwarded(_) => codes::SUCCESS,
+            Self::Short(_) => codes::SHORT,
+            Self::Late(_) => codes::LATE,
+            Self::Refused(refusal) => refusal.into(),
+        }
+    }
+
+    // The credit that the answer carries, if it carries one.
+    pub fn credit(self) -> Option<u32>
+        ensures { result ≡ outcome_credit self }
+    {
+        match self {
+            Self::Forwarded(credit) | Self::Short(credit) | Self::Late(credit) => Some(credit),
+            Self::Refused(_) => None,
+        }
+    }
 }
 
 // What is decided of a frame: the answer, and the account's credit and last time after the frame. The account's terms
@@ -53,28 +78,18 @@ pub struct Policed {
     pub account: Account,
 }
 
-// The shorter of two times.
-fn shorter(a: u64, b: u64) -> u64
-    ensures { result ≡ min a b }
-{
-    if a <= b { a } else { b }
-}
-
 // The credit after an elapsed time, at most the capacity. The elapsed time is cut to one that is long enough to fill
 // any account before the product is taken, so that nothing wraps.
 fn refilled(capacity: u32, credit: u32, rate: u32, elapsed: u64) -> u32
     ensures { result ≡ min capacity (credit + rate * elapsed) }
 {
-    let counted = shorter(elapsed, LONG_ELAPSED);
-    let held = credit as u64 + rate as u64 * counted;
-    if capacity as u64 <= held {
-        return capacity;
-    }
-    held as u32
+    let held = credit as u64 + rate as u64 * elapsed.min(LONG_ELAPSED);
+    held.min(capacity as u64) as u32
 }
 
 impl Account {
     // The credit topped up to a time that is not before the last, at most `full`.
+    #[tactic(auto, unfolding(crate::specs::Account::credit_up_to))]
     fn credit_at(self, full: u32, time: u64) -> u32
         requires { self.last ≤ time }
         ensures { result ≡ credit_up_to self full time }
@@ -83,16 +98,19 @@ impl Account {
     }
 
     // The account with another credit and last time.
-    fn holding(mut self, credit: u32, last: u64) -> Account
+    fn holding(self, credit: u32, last: u64) -> Account
         ensures { result ≡ holding self credit last }
     {
-        self.credit = credit;
-        self.last = last;
-        self
+        Account {
+            credit,
+            last,
+            ..self
+        }
     }
 
     // The account brought to a time that is not before the last, with a credit of at most `full`. An account at
     // capacity has no room for a refill: the account keeps its credit, and the time is stored.
+    #[tactic(auto, unfolding(crate::specs::Account::credit_up_to))]
     fn brought_to(self, full: u32, time: u64) -> Account
         requires { self.last ≤ time }
         ensures { result ≡ holding self (credit_up_to self full time) time }
@@ -103,67 +121,69 @@ impl Account {
         self.holding(self.credit_at(full, time), time)
     }
 
+    // The capacity of a sound account; one that is not is refused.
+    #[tactic(auto, using(crate::proofs::Methods::by_values))]
+    pub fn sound_capacity(self) -> Result<u32, Refusal>
+        ensures { result ≡ sound_capacity self }
+    {
+        let full = self.terms.capacity();
+        if full == 0 || full < self.credit {
+            return Err(Refusal::Unsound);
+        }
+        Ok(full)
+    }
+
     // The capacity, with the account; 0 where the policing step refuses the account. A sound account has 64 x 1,000 or
     // more, so 0 always means refused.
+    #[tactic(auto, unfolding(crate::specs::Account::sound_capacity, crate::specs::Account::capacity_of))]
     pub fn capacity(self) -> Measured
         ensures { result ≡ measured (capacity_of self) self }
     {
-        let full = self.terms.capacity();
-        if full < self.credit {
-            return Measured {
-                units: 0,
-                account: self,
-            };
-        }
         Measured {
-            units: full,
+            units: self.sound_capacity().unwrap_or(0),
             account: self,
         }
     }
 
     // The cost of a frame, with the account; 0 where the policing step refuses the octets or the account.
+    #[tactic(auto, using(crate::proofs::Methods::by_soundness), unfolding(crate::specs::Account::sound_capacity))]
     pub fn cost(self, octets: usize) -> Measured
         ensures { result ≡ measured (cost_of self octets) self }
     {
-        if self.capacity().units == 0 {
-            return Measured {
-                units: 0,
-                account: self,
-            };
-        }
+        let units = match self.sound_capacity() {
+            Ok(_) => self.terms.cost(octets),
+            Err(_) => 0,
+        };
         Measured {
-            units: self.terms.cost(octets),
+            units,
             account: self,
         }
     }
 
     // The account brought to a time; unchanged where the policing step refuses the account or the time.
+    #[tactic(auto, unfolding(crate::specs::Account::sound_capacity, crate::specs::Account::topped_up))]
     pub fn top_up(self, time: u64) -> Account
         ensures { result ≡ topped_up self time }
     {
-        let full = self.capacity().units;
-        if full == 0 {
-            return self;
+        match self.sound_capacity() {
+            Ok(full) if self.last <= time => self.brought_to(full, time),
+            _ => self,
         }
-        let last = self.last;
-        if time < last {
-            return self;
-        }
-        self.brought_to(full, time)
     }
 
     // The account less a frame's cost; unchanged where the credit is short.
+    #[tactic(auto, unfolding(crate::specs::Account::debited))]
     pub fn debit(self, octets: usize) -> Account
         ensures { result ≡ debited self octets }
     {
-        let cost = self.cost(octets).units;
-        if self.credit < cost {
-            return self;
+        match self.credit.checked_sub(self.cost(octets).units) {
+            Some(left) => self.holding(left, self.last),
+            None => self,
         }
-        self.holding(self.credit - cost, self.last)
     }
 
     // What is decided of a frame with a cost and a time, for a capacity in hand: late, short or forwarded.
+    #[tactic(auto, unfolding(crate::specs::Step::judged_at, crate::specs::Step::judged))]
     pub fn judge(self, full: u32, cost: u32, time: u64) -> Ruling
         ensures { stepped result.outcome (holding self result.credit result.last) ≡ judged_at self full cost time }
     {
@@ -190,29 +210,29 @@ impl Account {
         }
     }
 
+    // What is decided of a frame of a length and a time, unless the frame or the account is refused.
+    #[tactic(auto, using(crate::proofs::Step::refused_or_judged), unfolding(crate::specs::Account::sound_capacity, crate::specs::Step::policed))]
+    fn rule(self, octets: usize, time: u64) -> Result<Ruling, Refusal>
+        ensures { step_of self result ≡ policed self octets time }
+    {
+        frame::check_length(octets)?;
+        let capacity = self.sound_capacity()?;
+        Ok(self.judge(capacity, self.terms.cost(octets), time))
+    }
+
     // The policing step: the answer for a frame of a length and a time, and the account after the step.
     pub fn police(self, octets: usize, time: u64) -> Policed
         ensures { stepped_of result ≡ policed self octets time }
     {
-        let code = frame::length_code(octets);
-        if code != codes::SUCCESS {
-            return Policed {
-                outcome: Outcome::Refused(code),
+        match self.rule(octets, time) {
+            Ok(ruling) => Policed {
+                outcome: ruling.outcome,
+                account: self.holding(ruling.credit, ruling.last),
+            },
+            Err(refusal) => Policed {
+                outcome: Outcome::Refused(refusal),
                 account: self,
-            };
-        }
-        let capacity = self.capacity().units;
-        if capacity == 0 {
-            return Policed {
-                outcome: Outcome::Refused(codes::UNSOUND),
-                account: self,
-            };
-        }
-        let step = self.judge(capacity, self.terms.cost(octets), time);
-        let outcome = step.outcome;
-        Policed {
-            outcome,
-            account: self.holding(step.credit, step.last),
+            },
         }
     }
 }
@@ -221,8 +241,7 @@ impl Account {
 pub fn police_in_place(a: &mut Account, octets: usize, time: u64) -> Outcome
     ensures { stepped result a.new ≡ policed a.old octets time }
 {
-    let p = Account::police(*a, octets, time);
-    a.credit = p.account.credit;
-    a.last = p.account.last;
-    p.outcome
+    let Policed { outcome, account } = a.police(octets, time);
+    *a = account;
+    outcome
 }

@@ -11,33 +11,36 @@ use std::io::Stdout;
 // The octets of a frame with a constant field and a link number; all octets after these are 0.
 pub(crate) fn made(constant: u64, link: u64) -> [u8; 1519] {
     let mut octets = [0u8; 1519];
-    octets_write::put_u32(&mut octets, 0, (constant % 0x0001_0000_0000) as u32);
-    octets_write::put_u16(&mut octets, 4, (link % 65536) as u16);
+    octets_write::put_number(&mut octets, 0, (constant % 0x0001_0000_0000) as u32);
+    octets_write::put_number(&mut octets, 4, (link % 65536) as u16);
     octets
 }
 
 // The octets of a frame of `size` octets; the sequence number is the fifth octet from the end.
 fn numbered(size: usize) -> [u8; 1519] {
     let mut octets = made(50331657, 258);
-    octets[std::num::wrapping_sub_usize(size, 5) % 1519] = 77;
+    octets[size.wrapping_sub(5) % 1519] = 77;
     octets
 }
 
+// Prints the code of a frame, its link and its sequence number, and the length of its payload; zeros after a refusal.
 fn show_head(out: Stdout, octets: &[u8]) {
-    let header = frame::head(octets);
-    let part = frame::payload(octets);
+    let (code, link, sequence) = match frame::head(octets) {
+        Ok(header) => (codes::SUCCESS, header.link, header.sequence),
+        Err(refusal) => (refusal.into(), 0, 0),
+    };
+    let payload = frame::payload(octets).len();
     say::arrow(out);
-    say::two(out, header.code as u64, header.link as u64);
-    say::two(out, header.sequence as u64, part.len() as u64);
+    say::numbers(
+        out,
+        &[code as u64, link as u64, sequence as u64, payload as u64],
+    );
 }
 
 fn show_fields(out: Stdout, octets: &[u8]) {
     say::mark(out, b'|');
-    say::two(
-        out,
-        frame::constant_field(octets) as u64,
-        frame::link_number(octets) as u64,
-    );
+    say::number(out, frame::constant_field(octets) as u64);
+    say::number(out, frame::link_number(octets) as u64);
 }
 
 pub(crate) fn line(out: Stdout, n: Numbers) {

@@ -13,10 +13,10 @@
 use super::script::{Numbers, Words};
 use super::state::Lent;
 use super::{say, script};
-use image_read::ImageAnswer;
-use image_write::Written;
-use rows::Found;
+use image_fill::LentRuns;
+use image_read::ImageError;
 use std::io::Stdout;
+use tables::{LentTables, Settings};
 
 // The head of image P.
 const HEAD: u64 = 0x01_0005_01_0300_0000;
@@ -39,13 +39,11 @@ const TWO_OF_EACH: usize = 61;
 // eight octets after these.
 fn put_fields(room: &mut [u8], at: u16, step: u8, n: u16, x: u64, y: u64) {
     let mut offset = at as usize;
-    let mut i: u16 = 0;
-    while i < n {
-        let first = std::num::wrapping_add_u64(x, 0x0100_0000 * i as u64);
-        octets_write::put_u64(room, offset, first);
-        octets_write::put_u64(room, offset + 8, y);
-        offset += step as usize;
-        i += 1;
+    for i in 0..n {
+        let first = x.wrapping_add(0x0100_0000 * i as u64);
+        octets_write::put_number(room, offset, first);
+        octets_write::put_number(room, offset.wrapping_add(8), y);
+        offset = offset.wrapping_add(step as usize);
     }
 }
 
@@ -53,48 +51,54 @@ fn put_fields(room: &mut [u8], at: u16, step: u8, n: u16, x: u64, y: u64) {
 fn whole(accounts: u8, links: u16) -> [u8; 4720] {
     let first = 8 + 9 * accounts as u16;
     let mut image = [0u8; 4720];
-    octets_write::put_u64(&mut image, 0, HEAD);
+    octets_write::put_number(&mut image, 0, HEAD);
     put_fields(&mut image, 8, 9, accounts as u16, ACCOUNT, 0);
     put_fields(&mut image, first, 16, links, LINK, LINK_REST);
-    octets_write::put_u16(&mut image, first as usize + 16 * links as usize, END);
+    octets_write::put_number(&mut image, first as usize + 16 * links as usize, END);
     image
 }
 
-// Prints code and offset, then the constant field and the counts.
-fn show(out: Stdout, a: ImageAnswer) {
+// Prints the code and the offset of a refusal, or success and its offset.
+fn show_code(out: Stdout, refused: Option<ImageError>, offset: usize) {
+    let (code, offset) = match refused {
+        None => (codes::SUCCESS, offset),
+        Some(error) => (error.fault.into(), error.offset),
+    };
+    say::numbers(out, &[code as u64, offset as u64]);
+}
+
+// Prints code and offset of an image of a length, then the constant field and the counts.
+fn show(out: Stdout, answer: Result<Settings, ImageError>, length: usize) {
     say::arrow(out);
-    say::two(out, a.code as u64, a.offset as u64);
+    show_code(out, answer.err(), length);
     say::mark(out, b'|');
-    let s = a.settings;
-    say::three(out, s.constant as u64, s.accounts as u64, s.links as u64);
+    let none = Settings {
+        constant: 0,
+        accounts: 0,
+        links: 0,
+    };
+    let s = answer.unwrap_or(none);
+    say::numbers(out, &[s.constant as u64, s.accounts as u64, s.links as u64]);
 }
 
-// Prints what two rows of each run hold.
-fn show_runs(out: Stdout, rows: [u8; 12], c: u32, d: u32, t: u64, u: u64, links: [u8; 26]) {
-    say::octets(out, b"\naccounts", &rows);
-    say::text(out, b"\ncredits, last times");
-    say::two(out, c as u64, d as u64);
-    say::two(out, t, u);
-    say::octets(out, b"\nlinks", &links);
-}
-
-// Loads an image into the first parts of runs that hold two rows each.
+// Loads an image into the first parts of runs that hold two rows each, and prints what the runs hold.
 fn load(out: Stdout, image: &[u8], lent: Lent) {
     let mut rows = [170u8; 12];
     let mut credits = [7u32; 2];
     let mut lasts = [9u64; 2];
     let mut links = [187u8; 26];
-    show(
-        out,
-        image_load::load(
-            image,
-            &mut rows[0..lent.rows % 13],
-            &mut credits[0..lent.credits % 3],
-            &mut lasts[0..lent.words % 3],
-            &mut links[0..lent.links % 27],
-        ),
-    );
-    show_runs(out, rows, credits[0], credits[1], lasts[0], lasts[1], links);
+    let mut runs = LentRuns {
+        accounts: &mut rows[..lent.rows % 13],
+        credits: &mut credits[..lent.credits % 3],
+        lasts: &mut lasts[..lent.words % 3],
+        links: &mut links[..lent.links % 27],
+    };
+    show(out, image_load::load(image, &mut runs), image.len());
+    say::octets(out, b"\naccounts", &rows);
+    say::text(out, b"\ncredits, last times");
+    say::numbers(out, &credits);
+    say::numbers(out, &lasts);
+    say::octets(out, b"\nlinks", &links);
 }
 
 // The two account rows of an image with two accounts and two links, and a third row without its last octet.
@@ -113,32 +117,35 @@ fn link_rows(image: &[u8]) -> [u8; 38] {
     rows
 }
 
-// Prints code and offset of a written image.
-fn show_written(out: Stdout, w: Written) {
+// Prints code and offset of a written image; the offset of success is the image's length.
+fn show_written(out: Stdout, written: Result<usize, ImageError>) {
     say::mark(out, b'|');
-    say::two(out, w.code as u64, w.offset as u64);
+    show_code(out, written.err(), written.unwrap_or(0));
 }
 
 // Writes so many rows of an image into a room; returns the room.
 fn write(out: Stdout, image: &[u8], accounts: u64, links: u64, size: u64) -> [u8; 64] {
     let mut room = [170u8; 64];
+    let settings = Settings {
+        constant: octets::number_at(image, 4),
+        accounts: accounts as usize,
+        links: links as usize,
+    };
+    let source = LentTables {
+        settings,
+        accounts: &account_rows(image),
+        links: &link_rows(image),
+    };
     show_written(
         out,
-        image_write::write(
-            octets::u32_at(image, 4),
-            &account_rows(image),
-            accounts as usize,
-            &link_rows(image),
-            links as usize,
-            &mut room[0..size as usize % 65],
-        ),
+        image_write::write(source, &mut room[0..size as usize % 65]),
     );
     room
 }
 
 // Reads an image; one of two accounts and two links is also written from its rows.
 fn read(out: Stdout, image: &[u8]) {
-    show(out, image_read::check(image));
+    show(out, image_read::check(image), image.len());
     if image.len() == TWO_OF_EACH {
         write(out, image, 2, 2, TWO_OF_EACH as u64);
     }
@@ -183,17 +190,17 @@ fn image(out: Stdout, n: Numbers, words: Words) {
 
 // Writes so many rows of zeros; rows are lent for one more than each limit.
 fn zeros(out: Stdout, accounts: usize, links: usize) {
-    show_written(
-        out,
-        image_write::write(
-            0x0300_0000,
-            &[0u8; 390],
-            accounts,
-            &[0u8; 3341],
-            links,
-            &mut [0u8; 8],
-        ),
-    );
+    let settings = Settings {
+        constant: 0x0300_0000,
+        accounts,
+        links,
+    };
+    let source = LentTables {
+        settings,
+        accounts: &[0u8; 390],
+        links: &[0u8; 3341],
+    };
+    show_written(out, image_write::write(source, &mut [0u8; 8]));
 }
 
 // Four link rows with the numbers 7, 8, 8 and 9, the last row without its last octet.
@@ -207,11 +214,11 @@ fn link_numbers() -> [u8; 51] {
 }
 
 // Prints the row found, `-` for none.
-fn show_row(out: Stdout, found: Found) {
+fn show_row(out: Stdout, found: Option<usize>) {
     say::arrow(out);
     match found {
-        Found::At(row) => say::number(out, row as u64),
-        Found::Nowhere => say::mark(out, b'-'),
+        Some(row) => say::number(out, row as u64),
+        None => say::mark(out, b'-'),
     }
 }
 
@@ -224,8 +231,7 @@ fn find(out: Stdout, count: usize, number: u64) {
 }
 
 pub(crate) fn line(out: Stdout, n: Numbers, words: Words) {
-    let verb = n.verb;
-    match verb {
+    match n.verb {
         b'i' => image(out, n, words),
         b'z' => zeros(out, n.a as usize, n.b as usize),
         b'f' => find(out, n.a as usize, n.b),

@@ -22,46 +22,47 @@ use std::io::{Read, Stdout};
 // Octets of a script that are read.
 const SCRIPT_OCTETS: usize = 65536;
 
-// The state after a line of `steps`.
-fn step(out: Stdout, state: State, n: Numbers) -> State {
-    let account = steps::line(out, state.account, n);
-    let mut next = state;
-    next.account = account;
-    next
+// The sections, each with the module that answers its lines.
+#[derive(Clone, Copy)]
+enum Section {
+    Frames,
+    Steps,
+    Images,
+    Calls,
+    Receptions,
 }
 
-// The state after a line of any section.
-fn done(out: Stdout, section: u8, state: State, base: State, n: Numbers, words: Words) -> State {
+// Answers a line of a section; `base` is the state that `reset` goes back to.
+fn answer(
+    out: Stdout,
+    section: Section,
+    state: &mut State,
+    base: &State,
+    n: Numbers,
+    words: Words,
+) {
     match section {
-        b'f' => frames::line(out, n),
-        b's' => return step(out, state, n),
-        b'i' => images::line(out, n, words),
-        b'c' => return calls::line(out, state, base, n, words),
-        _ => return receptions::line(out, state, n, words),
+        Section::Frames => frames::line(out, n),
+        Section::Steps => state.account = steps::line(out, state.account, n),
+        Section::Images => images::line(out, n, words),
+        Section::Calls => calls::line(out, state, base, n, words),
+        Section::Receptions => receptions::line(out, state, n, words),
     }
-    state
-}
-
-// The state that `reset` goes back to: the one at the line `base`.
-fn kept(base: State, state: State, verb: u8) -> State {
-    if verb == b'b' { state } else { base }
 }
 
 // Prints each line of a script with the answer to that line, each line on the state that the lines before it set.
-fn run(out: Stdout, section: u8, text: &[u8]) {
+fn run(out: Stdout, section: Section, text: &[u8]) {
     let mut state = state::fresh();
     let mut base = state;
-    let mut at = 0;
-    while at < text.len() {
-        let start = at;
-        let line = script::read(text, start);
-        let end = line.end;
-        at = end + 1;
-        say::text(out, &text[start..end]);
-        let words = line.words;
+    for piece in text.split_inclusive(|x| *x == b'\n') {
+        let line = piece.strip_suffix(b"\n").unwrap_or(piece);
+        say::text(out, line);
+        let words = script::words(line);
         let n = script::named(words);
-        state = done(out, section, state, base, n, words);
-        base = kept(base, state, n.verb);
+        answer(out, section, &mut state, &base, n, words);
+        if n.verb == b'b' {
+            base = state;
+        }
         say::text(out, b"\n");
     }
 }
@@ -73,9 +74,8 @@ fn read_full(file: &mut File, room: &mut [u8]) -> usize
     let mut filled = 0;
     while filled < room.len() {
         match file.read(&mut room[filled..]) {
-            Ok(0) => break,
+            Ok(0) | Err(_) => break,
             Ok(octets) => filled += octets,
-            Err(_) => break,
         }
     }
     filled
@@ -91,18 +91,17 @@ fn read_script(rt: HostRuntime, name: &str, room: &mut [u8]) -> usize
     }
 }
 
-// Runs the section of a file; the first letter of the file's name says which section.
-fn section(rt: HostRuntime, name: &str) {
+// Runs a section, whose script is the file of this name.
+fn play(rt: HostRuntime, name: &str, section: Section) {
     let mut text = [0u8; SCRIPT_OCTETS];
     let n = read_script(rt, name, &mut text);
-    let first = octets::octet_at(name.as_bytes(), 0);
-    run(rt.stdout(), first, &text[0..n]);
+    run(rt.stdout(), section, &text[..n]);
 }
 
 fn main(rt: HostRuntime) {
-    section(rt, "frames");
-    section(rt, "steps");
-    section(rt, "images");
-    section(rt, "calls");
-    section(rt, "receptions");
+    play(rt, "frames", Section::Frames);
+    play(rt, "steps", Section::Steps);
+    play(rt, "images", Section::Images);
+    play(rt, "calls", Section::Calls);
+    play(rt, "receptions", Section::Receptions);
 }

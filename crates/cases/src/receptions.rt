@@ -8,9 +8,9 @@
 //   A link number time            a frame on network A
 //   B link number time            a frame on network B
 // A remainder keeps each number within its width; no case needs the remainder.
+use super::say;
 use super::script::{Numbers, Words};
 use super::state::{Lent, State};
-use super::{say, state};
 use receive_answer::{Arrival, Network, Reception};
 use std::io::Stdout;
 
@@ -23,81 +23,52 @@ fn show(out: Stdout, answer: Reception) {
         Reception::UnknownLink => say::text(out, b" -> unknown link"),
         Reception::Late => say::text(out, b" -> late"),
     }
-    say::number(out, answer.number() as u64);
+    say::number(out, u8::from(answer) as u64);
 }
 
 // Prints the last time, the last numbers on A and B, and the two words of a number's delivery on A and on B.
-fn show_memory(out: Stdout, memory: [u64; 3081], row: usize, number: u64) {
+fn show_memory(out: Stdout, memory: &[u64], row: usize, number: u64) {
     let first = row % 3 * receive::MEMORY_WORDS;
     let a = first + 3 + 2 * (number % 256) as usize;
-    say::words(out, &memory, first, 3);
-    say::words(out, &memory, a, 2);
-    say::words(out, &memory, a + 512, 2);
+    say::words(out, memory, first, 3);
+    say::words(out, memory, a, 2);
+    say::words(out, memory, a + 512, 2);
 }
 
-// Receives a frame, with a part of rows and memories lent; returns the memories after the call.
-fn received(
-    out: Stdout,
-    frame: Arrival,
-    lent: Lent,
-    rows: [u8; 24],
-    memory: [u64; 3081],
-) -> [u64; 3081] {
-    let mut held = memory;
-    show(
-        out,
-        receive::receive(
-            frame,
-            &rows[0..lent.rows % 25],
-            &mut held[0..lent.words % 3082],
-        ),
-    );
-    held
-}
-
-// Receives the frame of a line; returns the state with the memories that the call left.
-fn arrive(out: Stdout, state: State, network: Network, n: Numbers) -> State {
+// Receives the frame of a line, with a part of rows and memories lent.
+fn arrive(out: Stdout, state: &mut State, network: Network, n: Numbers) {
     let frame = Arrival {
         link: (n.a % 65536) as u16,
         network,
         number: (n.b % 256) as u8,
         time: n.c,
     };
-    let runs = state.runs;
-    let rows = runs.rows;
-    let held = runs.words;
-    let memory = received(out, frame, state.lent, rows, held);
-    show_memory(out, memory, state.shown, n.b);
-    state::with_runs(state, state::with_words(runs, memory))
+    let lent = state.lent;
+    let rows = &state.runs.rows[..lent.rows % 25];
+    let memories = &mut state.runs.words[..];
+    show(
+        out,
+        receive::receive(frame, rows, &mut memories[..lent.words % 3082]),
+    );
+    show_memory(out, &state.runs.words, state.shown, n.b);
 }
 
-// Returns the state with how much is lent of rows and memories.
-fn set_lent(state: State, rows: usize, words: usize) -> State {
-    let lent = Lent {
-        rows,
+// How much a line lends of rows and memories.
+fn lent(rows: u64, words: u64) -> Lent {
+    Lent {
+        rows: rows as usize,
         credits: 0,
-        words,
+        words: words as usize,
         links: 0,
-    };
-    let mut next = state;
-    next.lent = lent;
-    next
+    }
 }
 
-// Returns the state with another row whose memory is printed.
-fn set_shown(state: State, row: u64) -> State {
-    let mut next = state;
-    next.shown = row as usize;
-    next
-}
-
-pub(crate) fn line(out: Stdout, state: State, n: Numbers, words: Words) -> State {
-    let verb = n.verb;
-    match verb {
+pub(crate) fn line(out: Stdout, state: &mut State, n: Numbers, words: Words) {
+    match n.verb {
         b'A' => arrive(out, state, Network::A, n),
         b'B' => arrive(out, state, Network::B, n),
-        b'l' => set_lent(state, n.a as usize, n.b as usize),
-        b's' => set_shown(state, n.a),
-        _ => state::with_runs(state, state::set(state.runs, n, words)),
+        b'l' => state.lent = lent(n.a, n.b),
+        b's' => state.shown = n.a as usize,
+        _ => state.runs.set(n, words),
     }
 }

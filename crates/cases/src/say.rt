@@ -11,14 +11,19 @@ pub(crate) fn number(out: Stdout, n: u64) {
     let _ = out.print(n);
 }
 
-pub(crate) fn two(out: Stdout, a: u64, b: u64) {
-    number(out, a);
-    number(out, b);
+// Prints the numbers of a run.
+pub(crate) fn numbers<T: Copy + Into<u64>>(out: Stdout, run: &[T]) {
+    for &n in run {
+        number(out, n.into());
+    }
 }
 
-pub(crate) fn three(out: Stdout, a: u64, b: u64, c: u64) {
-    two(out, a, b);
-    number(out, c);
+// Prints a number, `-` for none.
+pub(crate) fn optional(out: Stdout, n: Option<u32>) {
+    match n {
+        Some(n) => number(out, n as u64),
+        None => mark(out, b'-'),
+    }
 }
 
 // Prints the arrow between a line and its answer.
@@ -31,37 +36,16 @@ pub(crate) fn mark(out: Stdout, x: u8) {
     text(out, &[b' ', x]);
 }
 
-// Prints a code with no credit.
-pub(crate) fn refused(out: Stdout, code: u8) {
-    number(out, code as u64);
-    mark(out, b'-');
-}
-
 // Prints a bar, then `count` words from an offset on.
-pub(crate) fn words(out: Stdout, run: &[u64], at: usize, count: u8) {
+pub(crate) fn words(out: Stdout, run: &[u64], at: usize, count: usize) {
     mark(out, b'|');
-    let mut i = at;
-    let mut left = count;
-    while i < run.len() {
-        if left == 0 {
-            return;
-        }
-        number(out, run[i]);
-        left -= 1;
-        i += 1;
+    for &n in run.iter().skip(at).take(count) {
+        number(out, n);
     }
-}
-
-fn octet(out: Stdout, x: u8) {
-    number(out, x as u64);
 }
 
 // Prints words, then each octet of a run.
 pub(crate) fn octets(out: Stdout, words: &[u8], run: &[u8]) {
     text(out, words);
-    let mut i = 0;
-    while i < run.len() {
-        octet(out, run[i]);
-        i += 1;
-    }
+    numbers(out, run);
 }

@@ -52,10 +52,10 @@ pub(crate) fn fresh() -> State {
             last: 0,
         },
         runs: Runs {
-            rows: [0u8; 24],
-            credits: [0u32; 4],
-            words: [0u64; 3081],
-            links: [0u8; 78],
+            rows: [0; 24],
+            credits: [0; 4],
+            words: [0; 3081],
+            links: [0; 78],
         },
         lent: Lent {
             rows: 0,
@@ -72,67 +72,38 @@ pub(crate) fn fresh() -> State {
     }
 }
 
-// The state with other runs, and the runs with other words.
-pub(crate) fn with_runs(state: State, runs: Runs) -> State {
-    let mut next = state;
-    next.runs = runs;
-    next
-}
+impl Runs {
+    // Sets a row of six octets; the row's numbers follow the row's index in the line, each by its width.
+    fn put_row(&mut self, row: u64, line: Words, widths: [u8; 8]) {
+        let octets = script::row(line, 2, widths);
+        octets_write::copy(&octets, 0, 6, &mut self.rows, row as usize % 4 * 6);
+    }
 
-pub(crate) fn with_words(runs: Runs, words: [u64; 3081]) -> Runs {
-    let mut next = runs;
-    next.words = words;
-    next
-}
+    // Sets a link row.
+    fn put_link(&mut self, row: u64, line: Words) {
+        let octets = script::row(line, 2, [2, 1, 4, 2, 2, 2, 0, 0]);
+        octets_write::copy(&octets, 0, 13, &mut self.links, row as usize % 6 * 13);
+    }
 
-// The runs after a row of six octets is set; the row's numbers follow the row's index in the line, each by its width.
-fn put_row(runs: Runs, row: u64, line: Words, widths: [u8; 8]) -> Runs {
-    let mut rows = runs.rows;
-    octets_write::copy(
-        &script::row(line, 2, widths),
-        0,
-        6,
-        &mut rows,
-        row as usize % 4 * 6,
-    );
-    let mut next = runs;
-    next.rows = rows;
-    next
-}
+    fn put_credit(&mut self, account: u64, credit: u64) {
+        self.credits[account as usize % 4] = (credit % 0x0001_0000_0000) as u32;
+    }
 
-// The runs after a link row is set.
-fn put_link(runs: Runs, row: u64, line: Words) -> Runs {
-    let mut links = runs.links;
-    let octets = script::row(line, 2, [2, 1, 4, 2, 2, 2, 0, 0]);
-    octets_write::copy(&octets, 0, 13, &mut links, row as usize % 6 * 13);
-    let mut next = runs;
-    next.links = links;
-    next
-}
+    fn put_word(&mut self, at: u64, word: u64) {
+        self.words[at as usize % 3081] = word;
+    }
 
-fn put_credit(runs: Runs, account: u64, credit: u64) -> Runs {
-    let mut next = runs;
-    next.credits[account as usize % 4] = (credit % 0x0001_0000_0000) as u32;
-    next
-}
-
-fn put_word(runs: Runs, at: u64, word: u64) -> Runs {
-    let mut next = runs;
-    next.words[at as usize % 3081] = word;
-    next
-}
-
-// The runs after a line that sets a part of the runs; `calls` and `receptions` say what such lines are.
-pub(crate) fn set(runs: Runs, n: Numbers, words: Words) -> Runs {
-    let verb = n.verb;
-    match verb {
-        b'a' => put_row(runs, n.a, words, [2, 1, 2, 1, 0, 0, 0, 0]),
-        b'r' => put_row(runs, n.a, words, [2, 4, 0, 0, 0, 0, 0, 0]),
-        b'l' => put_link(runs, n.a, words),
-        b'c' => put_credit(runs, n.a, n.b),
-        b't' => put_word(runs, n.a, n.b),
-        b'w' => put_word(runs, n.a % 3 * MEMORY + n.b % MEMORY, n.c),
-        b'e' => with_words(runs, [0u64; 3081]),
-        _ => runs,
+    // Sets what a line says; `calls` and `receptions` say what such lines are.
+    pub(crate) fn set(&mut self, n: Numbers, words: Words) {
+        match n.verb {
+            b'a' => self.put_row(n.a, words, [2, 1, 2, 1, 0, 0, 0, 0]),
+            b'r' => self.put_row(n.a, words, [2, 4, 0, 0, 0, 0, 0, 0]),
+            b'l' => self.put_link(n.a, words),
+            b'c' => self.put_credit(n.a, n.b),
+            b't' => self.put_word(n.a, n.b),
+            b'w' => self.put_word(n.a % 3 * MEMORY + n.b % MEMORY, n.c),
+            b'e' => self.words = [0; 3081],
+            _ => (),
+        }
     }
 }

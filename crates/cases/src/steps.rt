@@ -10,7 +10,7 @@
 // A remainder keeps each number within its width; no case needs the remainder.
 use super::say;
 use super::script::Numbers;
-use account::{Account, Outcome};
+use account::Account;
 use std::io::Stdout;
 use terms::Terms;
 
@@ -28,22 +28,13 @@ fn account_of(n: Numbers) -> Account {
     }
 }
 
-// Prints code and credit, `-` for no credit.
-fn show(out: Stdout, outcome: Outcome) {
-    say::arrow(out);
-    match outcome {
-        Outcome::Forwarded(credit) => say::two(out, codes::SUCCESS as u64, credit as u64),
-        Outcome::Short(credit) => say::two(out, codes::SHORT as u64, credit as u64),
-        Outcome::Late(credit) => say::two(out, codes::LATE as u64, credit as u64),
-        Outcome::Refused(code) => say::refused(out, code),
-    }
-}
-
+// Takes a policing step, and prints its code and credit, `-` for no credit.
 fn step(out: Stdout, account: Account, octets: usize, time: u64) -> Account {
-    let p = account.police(octets, time);
-    let outcome = p.outcome;
-    show(out, outcome);
-    p.account
+    let policed = account.police(octets, time);
+    say::arrow(out);
+    say::number(out, policed.outcome.code() as u64);
+    say::optional(out, policed.outcome.credit());
+    policed.account
 }
 
 fn debit(out: Stdout, account: Account, octets: usize) -> Account {
@@ -52,16 +43,15 @@ fn debit(out: Stdout, account: Account, octets: usize) -> Account {
     after
 }
 
-fn top_up(out: Stdout, mut account: Account, credit: u64, time: u64) {
-    account.credit = (credit % 0x0001_0000_0000) as u32;
-    let after = account.top_up(time);
+fn top_up(out: Stdout, account: Account, credit: u64, time: u64) {
+    let credit = (credit % 0x0001_0000_0000) as u32;
+    let after = Account { credit, ..account }.top_up(time);
     say::arrow(out);
-    say::two(out, after.credit as u64, after.last);
+    say::numbers(out, &[after.credit as u64, after.last]);
 }
 
 fn cost(out: Stdout, mut account: Account, mode: u64, octets: usize) {
-    let other = (mode % 256) as u8;
-    account.terms.mode = other;
+    account.terms.mode = (mode % 256) as u8;
     say::arrow(out);
     say::number(out, account.cost(octets).units as u64);
 }
@@ -75,9 +65,9 @@ fn figure(out: Stdout, account: Account, mode: u64, octets: u64) {
     }
 }
 
+// Answers a line; returns the account after it.
 pub(crate) fn line(out: Stdout, account: Account, n: Numbers) -> Account {
-    let verb = n.verb;
-    match verb {
+    match n.verb {
         b'a' => return account_of(n),
         b's' => return step(out, account, n.a as usize, n.b),
         b'd' => return debit(out, account, n.a as usize),

@@ -17,8 +17,8 @@ use Rattle.account_rule.specs.Bucket.{Reached}
 use Rattle.account_rule.specs.Rule.{rule_arrived}
 use Rattle.account_rule.specs.Counted.{reaching}
 use Rattle.account_rule.proofs.Counted.{not_reaching, arrived_counted, past_rises}
-use Rattle.rows.specs.declared.Found.{Found}
-use Rattle.rows.specs.declared.Found.TheVariants.{At, Nowhere}
+use Rattle.rows.specs.Rows.{Found}
+use Rattle.std.specs.Prelude.{Some, None}
 use Rattle.image_read.specs.Read.{read_image}
 use Rattle.filter.proofs.Filter.{frame_zero}
 use Rattle.switch.specs.Call.{Call}
@@ -30,8 +30,8 @@ use Rattle.demands.proofs.Words.{code_arrived, code_filtered, filter_code_high}
 
 -- the account that a frame is meant for is the one that its link names
 named_by : (s : List ℕ) (a : ℕ) (d : Found) → names s a d ≡ true → account_named s d ≡ a
-named_by s a Nowhere e = absurd (false≢true e)
-named_by s a (At j) e = eqb-true _ _ e
+named_by s a None e = absurd (false≢true e)
+named_by s a (Some j) e = eqb-true _ _ e
 
 -- a frame that the filter lets through has a frame's size
 let_through : (s : List ℕ) (f : Call) → filter_code s f ≡ 0 → length_code (length f.octets) ≡ 0

@@ -15,12 +15,12 @@ use Rattle.account_rule.proofs.Rule.{allowance_by_mode, rule_of_steps, steps_in_
 use Rattle.tables.proofs.Claims.{account_reads_back, link_reads_back, row_figures, config_parts, settings_parts, links_in_use_exactly, finds_first, finds_none}
 use Rattle.tables_rules.proofs.Claims.{link_sound_exactly, port_bits, numbers_rise, rows_good_exactly, link_accepted, link_refused, sizes_within_smax}
 use Rattle.image_layout.proofs.Claims.{constant_limits, constant_by_first, image_figures}
-use Rattle.image_fill.proofs.Claims.{run_parts}
+use Rattle.image_fill.proofs.Claims.{long_enough_exactly, run_parts}
 use Rattle.image_field.proofs.Claims.{head_codes_in_order, next_codes_in_order, tags_in_order, fields_by_tag}
 use Rattle.image_read.proofs.Bench.{image_p_reads, case_thirteen, cut_images, faulty_images, two_faults}
 use Rattle.image_read.proofs.Claims.{accepted_ends, read_codes, read_field_by_field, read_answers, good_fields_exactly}
 use Rattle.image_read.proofs.Prefix.{prefix_read}
-use Rattle.image_load.proofs.Claims.{load_codes, long_enough_exactly, load_refuses, offsets_inside, refused_load_keeps, rows_beyond_kept}
+use Rattle.image_load.proofs.Claims.{load_codes, load_refuses, offsets_inside, refused_load_keeps, rows_beyond_kept}
 use Rattle.image_load.proofs.Fresh.{fresh_holds, fresh_sound, load_accepts, load_fresh}
 use Rattle.image_load.proofs.Prefix.{prefix_load}
 use Rattle.image_write.proofs.Claims.{counts_exactly, first_bad_account, first_bad_constant, first_bad_link, image_length_lem, refused_write_keeps, write_accepts, write_codes, write_offsets, write_refuses, writes_image}

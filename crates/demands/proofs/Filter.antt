@@ -13,8 +13,8 @@ use Rattle.frame.specs.Frame.{link_number}
 use Rattle.frame.proofs.Frame.{within}
 use Rattle.rows.specs.Rows.{found_in}
 use Rattle.tables.specs.Rows.{Config, link_table, links_in_use, found}
-use Rattle.rows.specs.declared.Found.{Found}
-use Rattle.rows.specs.declared.Found.TheVariants.{At, Nowhere}
+use Rattle.rows.specs.Rows.{Found}
+use Rattle.std.specs.Prelude.{Some, None}
 use Rattle.rows.proofs.Finding.{first_found}
 use Rattle.tables.proofs.Claims.{links_same}
 use Rattle.image_read.specs.Read.{read_image}
@@ -27,9 +27,9 @@ use Rattle.demands.specs.Rule.{image_link, link_row, link_code, filter_code, nam
 use Rattle.demands.proofs.Tables.{Tables}
 
 -- by the constructor found, with the equation in hand
-by_constructor : {P : Type 0} (d : Found) → (d ≡ Nowhere → P) → ((j : ℕ) → d ≡ At j → P) → P
-by_constructor Nowhere f g = f refl
-by_constructor (At j) f g = g j refl
+by_constructor : {P : Type 0} (d : Found) → (d ≡ None → P) → ((j : ℕ) → d ≡ Some j → P) → P
+by_constructor None f g = f refl
+by_constructor (Some j) f g = g j refl
 
 -- ---- the code by the image
 module _ (s : List ℕ) (f : Call) where
@@ -45,17 +45,17 @@ module _ (s : List ℕ) (f : Call) where
     unfolding filter_code
     by_row = simp (eq-eqb _ _ z)
 
-    pub filter_unknown : link_row s f ≡ Nowhere → filter_code s f ≡ 4
+    pub filter_unknown : link_row s f ≡ None → filter_code s f ≡ 4
     filter_unknown e = by_row ∙ ap (link_code s f) e
 
-    pub filter_link : (j : ℕ) → link_row s f ≡ At j → filter_code s f ≡ port_code (image_link s j) (length f.octets) f.port
+    pub filter_link : (j : ℕ) → link_row s f ≡ Some j → filter_code s f ≡ port_code (image_link s j) (length f.octets) f.port
     filter_link j e = by_row ∙ ap (link_code s f) e
 
   -- by cases
   pub by_filter : {P : Type 0}
       → ((frame_code_lem ≡ 0 → ⊥) → P)
-      → (frame_code_lem ≡ 0 → link_row s f ≡ Nowhere → P)
-      → (frame_code_lem ≡ 0 → (j : ℕ) → link_row s f ≡ At j → j < (read_image s).settings.links → P)
+      → (frame_code_lem ≡ 0 → link_row s f ≡ None → P)
+      → (frame_code_lem ≡ 0 → (j : ℕ) → link_row s f ≡ Some j → j < (read_image s).settings.links → P)
       → P
   by_filter stopped unknown over =
       split (eqb frame_code_lem 0)
@@ -69,7 +69,7 @@ module _ (s : List ℕ) (f : Call) where
     pub passes_none : (filter_code s f ≡ 0 → ⊥) → passing s a f ≡ false
     passes_none h = ap (λ (b : Bool). meant s a f && b) (ne_eqb _ _ h) ∙ and-false (meant s a f)
 
-    pub passes_link : (j : ℕ) → frame_code_lem ≡ 0 → link_row s f ≡ At j → filter_code s f ≡ 0 → passing s a f ≡ eqb (image_link s j).account a
+    pub passes_link : (j : ℕ) → frame_code_lem ≡ 0 → link_row s f ≡ Some j → filter_code s f ≡ 0 → passing s a f ≡ eqb (image_link s j).account a
     unfolding meant
     passes_link j z e c =
         let w = within (length f.octets) (frame_zero (read_image s).settings.constant f.octets z) in
@@ -97,8 +97,8 @@ module _ (s : List ℕ) (g : Config) (t : Tables s g) (q : State) (f : Call) whe
     by_image_row : called g q f ≡ on_row g q f (link_row s f)
     by_image_row = call_row g q f (code_is ∙ z) ∙ ap (on_row g q f) row_is
 
-    pub call_nowhere : link_row s f ≡ Nowhere → called g q f ≡ refused_with 4 q
+    pub call_nowhere : link_row s f ≡ None → called g q f ≡ refused_with 4 q
     call_nowhere e = by_image_row ∙ ap (on_row g q f) e
 
-    pub call_link : (j : ℕ) → link_row s f ≡ At j → j < (read_image s).settings.links → called g q f ≡ by_link g q f (image_link s j)
+    pub call_link : (j : ℕ) → link_row s f ≡ Some j → j < (read_image s).settings.links → called g q f ≡ by_link g q f (image_link s j)
     call_link j e h = by_image_row ∙ ap (on_row g q f) e ∙ ap (by_link g q f) (t.link j h)

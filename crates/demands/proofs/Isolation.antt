@@ -14,14 +14,13 @@ use Rattle.account.specs.Step.{policed}
 use Rattle.account.specs.declared.Account.{Account}
 use Rattle.account_rule.proofs.Rule.{state}
 use Rattle.tables.specs.Rows.{Config}
-use Rattle.rows.specs.declared.Found.{Found}
-use Rattle.rows.specs.declared.Found.TheVariants.{At, Nowhere}
+use Rattle.rows.specs.Rows.{Found}
+use Rattle.std.specs.Prelude.{Some, None}
 use Rattle.image_read.specs.Read.{read_image}
 use Rattle.image_load.specs.Loading.{loading}
 use Rattle.image_fill.specs.Filling.{Runs}
 use Rattle.image_load.specs.Fresh.{Fresh}
-use Rattle.switch_verdict.specs.Verdict.{Report, reported, with_mask}
-use Rattle.switch_verdict.specs.declared.Verdict.TheVariants.{Refused}
+use Rattle.switch_verdict.specs.Verdict.{Report, refused, with_mask}
 use Rattle.switch.specs.Call.{State, Call, account_held}
 use Rattle.switch.specs.History.{calls_on, final_state}
 use Rattle.demands.specs.History.{config_in, state_in}
@@ -38,8 +37,8 @@ module _ (s : List ℕ) (a : ℕ) where
 
   row_names : (before after : List Call) (f : Call) → reached_in s before a ≡ reached_in s after a → (d : Found) → names s a d ≡ true
       → link_verdict s before f d ≡ link_verdict s after f d
-  row_names before after f e Nowhere n = absurd (false≢true n)
-  row_names before after f e (At j) n =
+  row_names before after f e None n = absurd (false≢true n)
+  row_names before after f e (Some j) n =
       let k : a ≡ (image_link s j).account = sym (eqb-true (image_link s j).account a n) in
       let q : account_of_lem s before a ≡ account_of_lem s after a = ap (state (image_terms s a)) e in
       ap (verdict_by j f) (subst (λ (i : ℕ). account_of_lem s before i ≡ account_of_lem s after i) k q)
@@ -48,7 +47,7 @@ module _ (s : List ℕ) (a : ℕ) where
       → verdict_for s before f ≡ verdict_for s after f
   unfolding verdict_for meant
   meant_verdict before after f e m =
-      ap (λ (w : Report). if not (eqb (filter_code s f) 0) then reported (Refused (filter_code s f)) else w)
+      ap (λ (w : Report). if not (eqb (filter_code s f) 0) then refused (filter_code s f) else w)
       (row_names before after f e (link_row s f) (both (leb destination_octets (length f.octets)) (names s a (link_row s f)) m).1)
 
   -- ---- tables after a past, in which the frames that reached the account are those of the calls `mine`

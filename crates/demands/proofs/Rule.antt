@@ -25,17 +25,16 @@ use Rattle.account.specs.declared.Account.{Account}
 use Rattle.account_rule.proofs.Rule.{Sound, state, Agree, step_arrived, state_sound, arrival, state_loaded}
 use Rattle.account.proofs.Step.{policed_keeps}
 use Rattle.tables.specs.Rows.{Config}
-use Rattle.rows.specs.declared.Found.{Found}
-use Rattle.rows.specs.declared.Found.TheVariants.{At, Nowhere}
+use Rattle.rows.specs.Rows.{Found}
+use Rattle.std.specs.Prelude.{Some, None}
 use Rattle.tables.specs.declared.Link.{Link}
 use Rattle.tables_rules.proofs.Rules.{sound_account}
 use Rattle.image_read.specs.Read.{read_image}
 use Rattle.image_fill.specs.Filling.{Runs}
 use Rattle.image_load.specs.Fresh.{Fresh}
 use Rattle.filter.specs.Filter.{port_code}
-use Rattle.switch_verdict.specs.Verdict.{Report, reported, with_mask}
+use Rattle.switch_verdict.specs.Verdict.{Report, refused, with_mask}
 use Rattle.switch.specs.Call.{State, state_of, Call, After, accounts_in_use, in_use_by, account_held, Decided, kept, decided, stored, refused_with, by_link, called}
-use Rattle.switch_verdict.specs.declared.Verdict.TheVariants.{Refused}
 use Rattle.filter.proofs.Filter.{frame_zero}
 use Rattle.switch.proofs.Call.{held_again, decided_refused, decided_policed}
 use Rattle.switch.specs.History.{calls_on, call_answers, final_state}
@@ -67,12 +66,12 @@ abbrev pub account_of_lem : List ℕ → List Call → ℕ → Account
 account_of_lem s past a = state (image_terms s a) (reached_in s past a)
 
 abbrev pub link_verdict : List ℕ → List Call → Call → Found → Report
-link_verdict s past f Nowhere = reported (Refused (filter_code s f))
-link_verdict s past f (At j) = with_mask (image_link s j).mask (policed (account_of_lem s past (image_link s j).account) (length f.octets) f.time).says
+link_verdict s past f None = refused (filter_code s f)
+link_verdict s past f (Some j) = with_mask (image_link s j).mask (policed (account_of_lem s past (image_link s j).account) (length f.octets) f.time).says
 
 unfoldable pub verdict_for : List ℕ → List Call → Call → Report
 verdict_for s past f =
-    if not (eqb (filter_code s f) 0) then reported (Refused (filter_code s f)) else link_verdict s past f (link_row s f)
+    if not (eqb (filter_code s f) 0) then refused (filter_code s f) else link_verdict s past f (link_row s f)
 
 -- ---- each account is the one that the frames which reached it leave
 pub record Stands (s : List ℕ) (g : Config) (past : List Call) (q : State) : Type 0 where
@@ -105,12 +104,12 @@ module _ (s : List ℕ) (g : Config) (t : Tables s g) (past : List Call) (q : St
       let z : eqb (filter_code s f) 0 ≡ false = ne_eqb (filter_code s f) 0 (λ d. n (sym e ∙ d)) in
       record {
         code = simp z (sym e);
-        verdict = simp z (ap (λ (c : ℕ). reported (Refused c)) (sym e));
+        verdict = simp z (ap refused (sym e));
         stands = stays (λ a. passes_none s f a (eqb-false _ _ z));
       }
 
   -- an account that the frame goes over to
-  module _ (j : ℕ) (h : j < (read_image s).settings.links) (z : frame_code_lem s f ≡ 0) (e : link_row s f ≡ At j) where
+  module _ (j : ℕ) (h : j < (read_image s).settings.links) (z : frame_code_lem s f ≡ 0) (e : link_row s f ≡ Some j) where
     abbrev link : Link
     link = image_link s j
 
@@ -151,7 +150,7 @@ module _ (s : List ℕ) (g : Config) (t : Tables s g) (past : List Call) (q : St
         let p : account ≡ account_held g.accounts q a = sym (st.is a known) in
         let k : state_of (set q.credits a account.credit) (set q.lasts a account.last) ≡ q =
         (λ i. state_of (set q.credits a (p i).credit) (set q.lasts a (p i).last)) ∙ held_again g.accounts q a in
-        subst (Ruled s g past f) (sym (d ∙ (λ i. record { says = reported (Refused (port_code link n f.port)); state = k i })))
+        subst (Ruled s g past f) (sym (d ∙ (λ i. record { says = refused (port_code link n f.port); state = k i })))
         (refused_by (port_code link n f.port) c m)
 
     -- the frame reaches the account, or is late

@@ -6,8 +6,8 @@ use Rattle.std.proofs.Math.Option.{none, some}
 use Rattle.terms.specs.Terms.{byte_mode, frame_mode}
 use Rattle.account_rule.specs.Bench.{Case, terms_p, byte_cases, frame_cases}
 use Rattle.image_read.specs.Bench.{image_p, answer_p}
-use Rattle.image_load.specs.Loading.{long_enough, loading}
-use Rattle.image_fill.specs.Filling.{Runs}
+use Rattle.image_load.specs.Loading.{loading}
+use Rattle.image_fill.specs.Filling.{Runs, long_enough}
 use Rattle.image_round_trip.specs.RoundTrips.{loaded_tables}
 use Rattle.switch_verdict.specs.Verdict.{Report, report}
 use Rattle.switch.specs.Call.{State, Call, call_of, called}

@@ -6,7 +6,8 @@ use Rattle.account.specs.Methods.{StepIsTopUpAndDebit, RefusedMethodsIdle, Metho
 use Rattle.tables.specs.Claims.{LinksInUseExactly, FindsFirst, FindsNone}
 use Rattle.image_field.specs.Claims.{HeadCodesInOrder, NextCodesInOrder, TagsInOrder, FieldsByTag}
 use Rattle.image_read.specs.Claims.{AcceptedEnds, GoodFieldsExactly, ReadFieldByField, ReadAnswers, PrefixRead}
-use Rattle.image_load.specs.Claims.{LongEnoughExactly, LoadRefuses, RowsBeyondKept, PrefixLoad}
+use Rattle.image_fill.specs.Claims.{LongEnoughExactly}
+use Rattle.image_load.specs.Claims.{LoadRefuses, RowsBeyondKept, PrefixLoad}
 use Rattle.image_load.specs.Fresh.{LoadAccepts, LoadFresh, FreshHolds, FreshSound}
 use Rattle.image_write.specs.Claims.{CountsExactly, WriteRefuses, WriteAccepts, WriteOffsets, WritesImage}
 use Rattle.image_write.specs.Claims.{ImageLength, FirstBadConstant, FirstBadAccount, FirstBadLink}

@@ -11,8 +11,8 @@ use Rattle.account_rule.specs.Bucket.{Reached}
 use Rattle.account_rule.specs.Rule.{StepCall, rule_arrived, rule_of_account}
 use Rattle.rows.specs.Rows.{found_in}
 use Rattle.tables.specs.Rows.{account_in, link_in}
-use Rattle.rows.specs.declared.Found.{Found}
-use Rattle.rows.specs.declared.Found.TheVariants.{At, Nowhere}
+use Rattle.rows.specs.Rows.{Found}
+use Rattle.std.specs.Prelude.{Some, None}
 use Rattle.tables.specs.declared.Link.{Link}
 use Rattle.image_read.specs.Read.{read_image}
 use Rattle.image_field.specs.Checks.{account_fields, link_fields}
@@ -33,8 +33,8 @@ link_row s f = found_in (link_fields s (read_image s).settings.accounts) (read_i
 
 -- ---- the filter: the first of the codes 1 to 7 that fits a frame, or 0. By the row of its number, 4 or the codes of that link
 abbrev pub link_code : List ℕ → Call → Found → ℕ
-link_code s f Nowhere = Codes.unknown_link
-link_code s f (At j) = port_code (image_link s j) (length f.octets) f.port
+link_code s f None = Codes.unknown_link
+link_code s f (Some j) = port_code (image_link s j) (length f.octets) f.port
 
 -- and before that by the frame alone
 unfoldable pub filter_code : List ℕ → Call → ℕ
@@ -44,8 +44,8 @@ filter_code s f =
 
 -- ---- for which account a frame is meant: the one that the image's link of its number names
 abbrev pub names : List ℕ → ℕ → Found → Bool
-names s a Nowhere = false
-names s a (At j) = eqb (image_link s j).account a
+names s a None = false
+names s a (Some j) = eqb (image_link s j).account a
 
 -- provided that the frame has a whole destination address, whose last two octets are the number
 abbrev pub destination_octets : ℕ
@@ -69,8 +69,8 @@ reached_in s past a = left_by (rule_of_account (image_terms s a)) [] (map step_c
 
 -- ---- the code of a frame after a past. Its account, which is asked only where its number has a link
 abbrev pub account_named : List ℕ → Found → ℕ
-account_named s Nowhere = 0
-account_named s (At j) = (image_link s j).account
+account_named s None = 0
+account_named s (Some j) = (image_link s j).account
 
 -- the filter's code; else, from the frames that reached the account: late by the last of them, or forwarded or short by the rule
 unfoldable pub rule_code : List ℕ → List Call → Call → ℕ

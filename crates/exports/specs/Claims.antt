@@ -2,19 +2,19 @@
 -- the number is named for, whichever the answer is (document 01, "Codes, in order of checking" and "The configuration
 -- image"; document 02, Q-1); proved in proofs/Claims.antt.
 use Rattle.std.specs.Prelude.{ℕ, List, [], ◌∷◌, map, ◌≡◌}
-use Rattle.account.specs.Step.{stepped}
+use Rattle.codes.specs.Refused.{number_of}
+use Rattle.codes.specs.declared.Refusal.{Refusal}
+use Rattle.account.specs.Step.{stepped, turned_away}
 use Rattle.account.specs.declared.Account.{Account}
 use Rattle.account.specs.declared.Outcome.TheVariants as Outcome
-use Rattle.switch_verdict.specs.Verdict.{reported}
+use Rattle.switch_verdict.specs.Verdict.{reported, refused}
 use Rattle.switch_verdict.specs.declared.Verdict.TheVariants as Verdict
 use Rattle.switch.specs.Call.{State, after_of}
 use Rattle.receive.specs.Receive.{received_of}
 use Rattle.receive_answer.specs.declared.Network.TheVariants.{A, B}
 use Rattle.receive_answer.specs.declared.Reception.TheVariants.{Delivered, Copy, OutOfSequence, UnknownLink, Late}
 use Rattle.exports.specs.Numbers.{header_with, account_with, loaded_with, network_of, reception_done, reception_done_of}
-use Rattle.exports.specs.Numbers.{step_numbers, step_done, step_done_of, call_numbers, call_done, call_done_of}
-use Rattle.exports.specs.declared.accounts.StepNumbers.{StepNumbers}
-use Rattle.exports.specs.declared.calls.CallNumbers.{CallNumbers}
+use Rattle.exports.specs.Numbers.{StepNumbers, step_numbers, step_done, step_done_of, CallNumbers, call_numbers, call_done, call_done_of}
 
 -- ---- frame reading, and an account by its values
 abbrev pub HeaderNumbers : Type 0
@@ -43,7 +43,8 @@ StepFigures =
     → (step_done_of (stepped (Outcome.Forwarded credit) a) ≡ step_done (step_numbers 0 credit) a)
     × (step_done_of (stepped (Outcome.Short credit) a) ≡ step_done (step_numbers 9 credit) a)
     × (step_done_of (stepped (Outcome.Late credit) a) ≡ step_done (step_numbers 8 credit) a)
-    × (step_done_of (stepped (Outcome.Refused code) a) ≡ step_done (step_numbers code 0) a))
+    × (step_done_of (turned_away code a) ≡ step_done (step_numbers code 0) a))
+    × ((r : Refusal) (a : Account) → step_done_of (stepped (Outcome.Refused r) a) ≡ step_done (step_numbers (number_of r) 0) a)
 
 -- ---- the frame call: 0 with mask and credit, 9 and 8 with their credit and mask 0, any other code with zeros; and the
 -- state after the call
@@ -58,7 +59,8 @@ CallFigures =
     → (call_done_of (after_of (reported (Verdict.Forwarded mask credit)) s) ≡ call_done (call_numbers 0 mask credit) s)
     × (call_done_of (after_of (reported (Verdict.Short credit)) s) ≡ call_done (call_numbers 9 0 credit) s)
     × (call_done_of (after_of (reported (Verdict.Late credit)) s) ≡ call_done (call_numbers 8 0 credit) s)
-    × (call_done_of (after_of (reported (Verdict.Refused code)) s) ≡ call_done (call_numbers code 0 0) s))
+    × (call_done_of (after_of (refused code) s) ≡ call_done (call_numbers code 0 0) s))
+    × ((r : Refusal) (s : State) → call_done_of (after_of (reported (Verdict.Refused r)) s) ≡ call_done (call_numbers (number_of r) 0 0) s)
 
 -- ---- reading and loading an image
 abbrev pub ImageNumbers : Type 0

@@ -5,27 +5,25 @@ use Rattle.std.specs.Prelude.{ℕ, List, eqb}
 use Rattle.std.proofs.Math.Option.{Option, none, some}
 use Rattle.tables.specs.Rows.{settings_of}
 use Rattle.std.specs.Prelude.{if◌then◌else◌}
-use Rattle.frame.specs.declared.Header.{Header}
+use Rattle.frame.specs.Frame.{Reading}
 use Rattle.terms.specs.Terms.{terms_with}
 use Rattle.account.specs.Account.{account_of}
 use Rattle.account.specs.Step.{StepReport, Stepped}
 use Rattle.account.specs.declared.Account.{Account}
-use Rattle.image_read.specs.declared.ImageAnswer.{ImageAnswer}
+use Rattle.image_read.specs.Read.{ImageAnswer}
 use Rattle.switch_verdict.specs.Verdict.{Report}
 use Rattle.switch.specs.Call.{State, After}
 use Rattle.receive.specs.Receive.{Received}
 use Rattle.receive_answer.specs.Answer.{reception_code}
 use Rattle.receive_answer.specs.declared.Network.{Network}
 use Rattle.receive_answer.specs.declared.Network.TheVariants.{A, B}
-use Rattle.exports.specs.declared.accounts.StepNumbers.{StepNumbers}
-use Rattle.exports.specs.declared.calls.CallNumbers.{CallNumbers}
 
 abbrev pub or_zero : Option ℕ → ℕ
 or_zero none = 0
 or_zero (some x) = x
 
 -- ---- frame reading ("The frame")
-abbrev pub header_with : ℕ → ℕ → ℕ → Header
+abbrev pub header_with : ℕ → ℕ → ℕ → Reading
 header_with code link sequence = record { code = code; link = link; sequence = sequence }
 
 -- ---- an account by its values ("Accounts and links"): Smax, k, jitter, mode, credit and last time
@@ -34,6 +32,10 @@ account_with smax k jitter mode credit last =
     account_of (terms_with smax k jitter mode) credit last
 
 -- ---- the policing step ("Credit, in whole units"): the code, the credit reported, and the account after the step
+pub record StepNumbers : Type 0 where
+  pub code : ℕ
+  pub credit : ℕ
+
 abbrev pub step_numbers : ℕ → ℕ → StepNumbers
 step_numbers code credit = record { code = code; credit = credit }
 
@@ -52,6 +54,11 @@ step_done_of q = step_done (step_says q.says) q.account
 
 -- ---- the frame call ("Codes, in order of checking"): the code, the mask and the credit reported, and the state after
 -- the call
+pub record CallNumbers : Type 0 where
+  pub code : ℕ
+  pub mask : ℕ
+  pub credit : ℕ
+
 abbrev pub call_numbers : ℕ → ℕ → ℕ → CallNumbers
 call_numbers code mask credit = record { code = code; mask = mask; credit = credit }
 

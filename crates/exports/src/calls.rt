@@ -1,49 +1,11 @@
 // The frame call in numbers.
 ghost use Rattle.std.specs.Prelude.{◌≡◌};
 ghost use Rattle.tables.specs.Rows.{config_of};
-ghost use Rattle.switch_verdict.specs.Verdict.{reported};
 ghost use Rattle.switch.specs.Call.{state_of, call_of, called};
-ghost use Rattle.exports.specs.Numbers.{call_numbers, call_says, call_done, call_done_of};
+ghost use Rattle.exports.specs.Numbers.{call_numbers, call_done, call_done_of};
 
 use switch::Ingress;
-use switch_verdict::Verdict;
-use tables::Settings;
-
-// A verdict in numbers.
-#[derive(Clone, Copy)]
-struct CallNumbers {
-    code: u8,
-    mask: u32,
-    credit: u32,
-}
-
-// The numbers of a verdict.
-fn numbers(verdict: Verdict) -> CallNumbers
-    ensures { result ≡ call_says (reported verdict) }
-{
-    match verdict {
-        Verdict::Forwarded { mask, credit } => CallNumbers {
-            code: codes::SUCCESS,
-            mask,
-            credit,
-        },
-        Verdict::Short(credit) => CallNumbers {
-            code: codes::SHORT,
-            mask: 0,
-            credit,
-        },
-        Verdict::Late(credit) => CallNumbers {
-            code: codes::LATE,
-            mask: 0,
-            credit,
-        },
-        Verdict::Refused(code) => CallNumbers {
-            code,
-            mask: 0,
-            credit: 0,
-        },
-    }
-}
+use tables::{LentTables, Settings};
 
 // The frame call: returns the code of a frame on a port at a time; `mask` and `credit` are those that the verdict
 // carries.
@@ -73,17 +35,13 @@ pub extern "C" fn ashthulgo_frame_call(
         accounts: account_count,
         links: link_count,
     };
-    let verdict = switch::frame_call(
-        frame,
-        Ingress { port, time },
+    let tables = LentTables {
         settings,
         accounts,
-        credits,
-        lasts,
         links,
-    );
-    let said = numbers(verdict);
-    *mask = said.mask;
-    *credit = said.credit;
-    said.code
+    };
+    let verdict = switch::frame_call(frame, Ingress { port, time }, tables, credits, lasts);
+    *mask = verdict.mask().unwrap_or(0);
+    *credit = verdict.credit().unwrap_or(0);
+    verdict.code()
 }

@@ -3,6 +3,8 @@ ghost use Rattle.std.specs.Prelude.{◌≡◌, length};
 ghost use Rattle.frame.specs.Frame.{header_of, payload_of};
 ghost use Rattle.exports.specs.Numbers.{header_with};
 
+use frame::Header;
+
 // Reads a frame: returns the code; writes the virtual link, the sequence number, and the length of the payload, which
 // starts at octet 14.
 #[unsafe(no_mangle)]
@@ -15,10 +17,18 @@ pub extern "C" fn ashthulgo_read_frame(
     ensures header { header_with result link.new sequence.new ≡ header_of frame.now }
     ensures payload { payload.new ≡ length (payload_of frame.now) }
 {
-    let header = frame::head(frame);
-    let part = frame::payload(frame);
+    *payload = frame::payload(frame).len();
+    let (code, header) = match frame::head(frame) {
+        Ok(header) => (codes::SUCCESS, header),
+        Err(refusal) => (
+            refusal.into(),
+            Header {
+                link: 0,
+                sequence: 0,
+            },
+        ),
+    };
     *link = header.link;
     *sequence = header.sequence;
-    *payload = part.len();
-    header.code
+    code
 }

@@ -1,29 +1,42 @@
 // Reading, loading and writing a configuration image, in numbers.
 ghost use Rattle.std.specs.Prelude.{◌≡◌};
 ghost use Rattle.tables.specs.Rows.{config_of};
-ghost use Rattle.image_read.specs.Read.{read_image};
+ghost use Rattle.image_read.specs.Read.{read_image, answered};
 ghost use Rattle.image_load.specs.Loading.{loading_of, loading};
 ghost use Rattle.image_fill.specs.Filling.{runs_of};
 ghost use Rattle.image_write.specs.Writing.{written_of, writing_of, writing};
 ghost use Rattle.exports.specs.Numbers.{loaded_with};
 
-use image_read::ImageAnswer;
+use image_fill::LentRuns;
+use image_read::ImageError;
+use tables::{LentTables, Settings};
 
-// Writes the parts of an answer to the caller's places; returns the code.
+// Writes the parts of an answer to the caller's places; returns the code. `length` is the image's length, the offset of
+// success.
 fn report(
-    answer: ImageAnswer,
+    answer: Result<Settings, ImageError>,
+    length: usize,
     offset: &mut usize,
     constant: &mut u32,
     account_count: &mut usize,
     link_count: &mut usize,
 ) -> u8
-    ensures { loaded_with result offset.new constant.new account_count.new link_count.new ≡ answer }
+    ensures { loaded_with result offset.new constant.new account_count.new link_count.new ≡ answered length answer }
 {
-    *offset = answer.offset;
-    *constant = answer.settings.constant;
-    *account_count = answer.settings.accounts;
-    *link_count = answer.settings.links;
-    answer.code
+    let none = Settings {
+        constant: 0,
+        accounts: 0,
+        links: 0,
+    };
+    let (code, at, settings) = match answer {
+        Ok(settings) => (codes::SUCCESS, length, settings),
+        Err(error) => (error.fault.into(), error.offset, none),
+    };
+    *offset = at;
+    *constant = settings.constant;
+    *account_count = settings.accounts;
+    *link_count = settings.links;
+    code
 }
 
 // Reads an image with no tables lent: returns the code; writes the rest of the answer.
@@ -39,7 +52,14 @@ pub extern "C" fn ashthulgo_check(
         ≡ read_image image.now }
 {
     let answer = image_read::check(image);
-    report(answer, offset, constant, account_count, link_count)
+    report(
+        answer,
+        image.len(),
+        offset,
+        constant,
+        account_count,
+        link_count,
+    )
 }
 
 // Loads an image into lent tables: returns the code; writes the rest of the answer.
@@ -61,8 +81,21 @@ pub extern "C" fn ashthulgo_load(
         ≡ loading image.now
         (runs_of accounts.old credits.old lasts.old links.old) }
 {
-    let answer = image_load::load(image, accounts, credits, lasts, links);
-    report(answer, offset, constant, account_count, link_count)
+    let mut runs = LentRuns {
+        accounts,
+        credits,
+        lasts,
+        links,
+    };
+    let answer = image_load::load(image, &mut runs);
+    report(
+        answer,
+        image.len(),
+        offset,
+        constant,
+        account_count,
+        link_count,
+    )
 }
 
 // Loads an image into lent tables through a reader that stands at any place; the place is then the offset answered.
@@ -86,10 +119,22 @@ pub extern "C" fn ashthulgo_reader_load(
         (runs_of accounts.old credits.old lasts.old links.old) }
     ensures place { place.new ≡ offset.new }
 {
-    let reading = image_reader_lent::load_from(image, *place, accounts, credits, lasts, links);
+    let mut runs = LentRuns {
+        accounts,
+        credits,
+        lasts,
+        links,
+    };
+    let reading = image_reader_lent::load_from(image, *place, &mut runs);
     *place = reading.at;
-    let answer = reading.answer;
-    report(answer, offset, constant, account_count, link_count)
+    report(
+        reading.answer,
+        image.len(),
+        offset,
+        constant,
+        account_count,
+        link_count,
+    )
 }
 
 // Writes the image of the first rows of two tables: returns the code; writes the offset or the image's length.
@@ -106,7 +151,20 @@ pub extern "C" fn ashthulgo_write(
     ensures { writing_of (written_of result offset.new) room.new
         ≡ writing (config_of constant accounts.now account_count links.now link_count) room.old }
 {
-    let written = image_write::write(constant, accounts, account_count, links, link_count, room);
-    *offset = written.offset;
-    written.code
+    let settings = Settings {
+        constant,
+        accounts: account_count,
+        links: link_count,
+    };
+    let source = LentTables {
+        settings,
+        accounts,
+        links,
+    };
+    let (code, at) = match image_write::write(source, room) {
+        Ok(length) => (codes::SUCCESS, length),
+        Err(error) => (error.fault.into(), error.offset),
+    };
+    *offset = at;
+    code
 }

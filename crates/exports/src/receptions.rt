@@ -26,13 +26,11 @@ pub extern "C" fn ashthulgo_receive(
     ensures { reception_done result memory.new
         ≡ reception_done_of (received rows.now memory.old (arrival_of link (network_of network) number time)) }
 {
-    let side = network_of(network);
     let frame = Arrival {
         link,
-        network: side,
+        network: network_of(network),
         number,
         time,
     };
-    let answer = receive::receive(frame, rows, memory);
-    answer.number()
+    receive::receive(frame, rows, memory).into()
 }

@@ -1,14 +1,14 @@
 -- Laws of tagged fields. Assumes nothing.
-use Prim.Native.Nat.{ℕ, suc, ◌+◌, ◌^◌, ◌≤◌, ◌<◌}
-use mathlib.Core.Bool.{Bool, true, false, ◌&&◌}
+use Prim.Native.Nat.{ℕ, suc, ◌+◌, ◌^◌, ◌≤◌, ◌<◌, min}
+use mathlib.Core.Bool.{Bool, true, ◌&&◌}
 use mathlib.Core.List.{List, [], ◌∷◌, ◌++◌}
 use mathlib.Core.Path.{◌≡◌, refl, sym, ap, ap₂, ◌∙◌}
 use native.Mathlib.Nat.{add-zero, zero-add, add_assoc}
 use native.Mathlib.Omega.{arith}
 use lib.Dec.{leb, eqb}
-use lib.ListN.{length, get_or, length-append, get_or-append, get_or-eq_default}
+use lib.ListN.{length, get_or, length-append, get_or-append}
 use lib.Seq.{get_or-append-add}
-use borrow.Author.Tests.{le-leb, lt-leb, leb-true, eq-eqb, ne_eqb, eqb-true}
+use borrow.Author.Tests.{le-leb, leb-false, leb-true, eq-eqb, eqb-true}
 use Rattle.octets.specs.Numbers.{number_at, octets_of}
 use Rattle.octets.specs.Runs.{octets_at}
 use Rattle.octets.proofs.Numbers.{number_shift, number_octets_lem, number_past, length_octets}
@@ -16,51 +16,23 @@ use Rattle.octets.proofs.Parts.{length_part, get_d_part, part_is, part_join, oct
 use Rattle.lists.proofs.Tests.{split, both}
 use Rattle.fields.specs.Fields.{field_of, tag_and_length, length_at, field_at, stands_at}
 
--- ---- a field as the code reads it: all zeros past the end, else part by part
-module _ (s : List ℕ) (at : ℕ) where
-  pub field_past : length s ≤ at → record { headed = false; tag = 0; size = 0; whole = false } ≡ field_at s at
-  field_past h =
-      let n : length_at s at ≡ 0 = number_past 2 s _ (omega arith) in
-      rw (n, get_or-eq_default s 0 h, lt-leb (at + tag_and_length) (length s) (omega arith))
+-- ---- a field as the code reads it, part by part; an offset above the largest, m, is cut to m
+pub number_cut : (w : ℕ) (s : List ℕ) (at m p : ℕ) → p ≡ min at m → length s ≤ m → number_at w s p ≡ number_at w s at
+number_cut w s at m p q l =
+    split (leb at m)
+    (λ e. let h = leb-true _ _ e in let r : p ≡ at = omega arith in ap (number_at w s) r)
+    (λ e. let h = leb-false _ _ e in number_past w s p (omega arith) ∙ sym (number_past w s at (omega arith)))
 
+module _ (s : List ℕ) (at : ℕ) where
   pub field_is : (h w : Bool) (t n : ℕ) → h ≡ leb (at + tag_and_length) (length s) → t ≡ get_or s at 0 → n ≡ length_at s at
       → w ≡ leb (at + (tag_and_length + n)) (length s) → record { headed = h; tag = t; size = n; whole = w } ≡ field_at s at
   field_is h w t n eh et en ew = rw (eh, et, ew, en)
 
   -- ---- whether a field stands whole
   module _ (tag size : ℕ) where
-    pub stands_not : length s < at + (tag_and_length + size) → false ≡ stands_at s at tag size
-    unfolding stands_at
-    stands_not h =
-        split (eqb (length_at s at) size)
-        (λ e. let l : length_at s at ≡ size = eqb-true _ _ e in simp (lt-leb (at + (tag_and_length + length_at s at)) (length s) (omega arith)))
-        (λ e.
-        split (leb (at + (tag_and_length + length_at s at)) (length s))
-        (λ w. split (eqb (get_or s at 0) tag) (λ t. simp (w, t, e)) (λ t. simp (w, t)))
-        (λ w. simp w))
-
-    module _ (h : at + (tag_and_length + size) ≤ length s) (t : ℕ) (p : t ≡ get_or s at 0) where
-      pub stands_other : (t ≡ tag → ⊥) → false ≡ stands_at s at tag size
-      unfolding stands_at
-      stands_other d =
-          split (leb (at + (tag_and_length + length_at s at)) (length s))
-          (λ w. simp (w, ← p, ne_eqb _ _ d))
-          (λ w. simp w)
-
-      pub stands_tested : t ≡ tag → (n : ℕ) → n ≡ length_at s at → eqb n size ≡ stands_at s at tag size
-      unfolding stands_at
-      stands_tested q n v =
-          split (eqb n size)
-          (λ e.
-          let l : length_at s at ≡ size = sym v ∙ eqb-true _ _ e in
-          simp (le-leb (at + (tag_and_length + length_at s at)) (length s) (omega arith), ← p, eq-eqb _ _ q, ← v))
-          (λ e.
-          split (leb (at + (tag_and_length + length_at s at)) (length s))
-          (λ w. simp (w, ← p, eq-eqb _ _ q, ← v, e))
-          (λ w. simp (w, e)))
-
     pub stands_by : get_or s at 0 ≡ tag → length_at s at ≡ size → at + (tag_and_length + size) ≤ length s → stands_at s at tag size ≡ true
-    stands_by t n h = sym (stands_tested h (get_or s at 0) refl t (length_at s at) refl) ∙ eq-eqb _ _ n
+    unfolding stands_at
+    stands_by t n h = simp (n, le-leb _ _ h, eq-eqb _ _ t, eq-eqb size size refl)
 
     -- what a field that stands whole is like
     module _ (e : stands_at s at tag size ≡ true) where

@@ -21,15 +21,7 @@ pub struct Field {
 pub fn read(run: &[u8], at: usize) -> Field
     ensures { result ≡ field_at run.now at }
 {
-    if run.len() <= at {
-        return Field {
-            headed: false,
-            tag: 0,
-            size: 0,
-            whole: false,
-        };
-    }
-    let size = octets::u16_at(run, at + 1);
+    let size = octets::number_at::<u16>(run, at.saturating_add(1));
     Field {
         headed: octets::has_room(run.len(), at, TAG_AND_LENGTH),
         tag: octets::octet_at(run, at),
@@ -39,14 +31,11 @@ pub fn read(run: &[u8], at: usize) -> Field
 }
 
 // Whether a field of this tag and this length stands whole at an offset.
+#[tactic(auto, unfolding(crate::specs::Fields::stands_at))]
 pub fn stands(run: &[u8], at: usize, tag: u8, size: u16) -> bool
     ensures { result ≡ stands_at run.now at tag size }
 {
-    if !octets::has_room(run.len(), at, TAG_AND_LENGTH + size as usize) {
-        return false;
-    }
-    if octets::octet_at(run, at) != tag {
-        return false;
-    }
-    octets::u16_at(run, at + 1) == size
+    octets::has_room(run.len(), at, TAG_AND_LENGTH + size as usize)
+        && octets::octet_at(run, at) == tag
+        && octets::number_at::<u16>(run, at + 1) == size
 }

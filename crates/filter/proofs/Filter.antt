@@ -1,8 +1,8 @@
 -- Laws of the filter, case by case as the code makes its tests. Assumes nothing.
 use Prim.Native.Nat.{ℕ, ◌≤◌, ◌<◌}
-use mathlib.Core.Bool.{Bool, true, false}
+use mathlib.Core.Bool.{true}
 use mathlib.Core.List.{List}
-use mathlib.Core.Path.{◌≡◌, refl, sym, ap, ◌∙◌}
+use mathlib.Core.Path.{◌≡◌, refl, sym, ◌∙◌}
 use native.Mathlib.Omega.{arith}
 use lib.ListN.{length}
 use lib.Dec.{ltb, eqb}
@@ -10,15 +10,11 @@ use borrow.Author.Tests.{lt-ltb, le-ltb, ltb-false, eq-eqb, ne_eqb, eqb-true, eq
 use Rattle.lists.proofs.Tests.{split}
 use Rattle.frame.specs.Frame.{length_code, constant_field, link_number}
 use Rattle.frame.proofs.Frame.{by_length}
-use Rattle.tables.specs.Rows.{found, lookup_in}
-use Rattle.rows.specs.declared.Found.{Found}
-use Rattle.rows.specs.declared.Found.TheVariants.{At, Nowhere}
+use Rattle.tables.specs.Rows.{found}
+use Rattle.rows.specs.Rows.{Found}
 use Rattle.tables.specs.declared.Link.{Link}
-use Rattle.tables.specs.declared.Lookup.{Lookup}
-use Rattle.tables.specs.declared.Lookup.TheVariants.{Present, Absent}
 use Rattle.filter.specs.Filter.{frame_code, port_code, route_to, routed}
-use Rattle.filter.specs.declared.Route.{Route}
-use Rattle.filter.specs.declared.Route.TheVariants.{Stopped, OnLink}
+use Rattle.std.specs.Prelude.{Err}
 
 -- ---- the frame alone, by the code h of its length
 module _ (constant : ℕ) (f : List ℕ) (h : ℕ) (e : h ≡ length_code (length f)) where
@@ -37,21 +33,6 @@ module _ (constant : ℕ) (f : List ℕ) (h : ℕ) (e : h ≡ length_code (lengt
     pub frame_passes : x ≡ constant → 0 ≡ frame_code constant f
     unfolding frame_code
     frame_passes d = simp (good_length, eq-eqb (constant_field f) constant (sym q ∙ d))
-
--- the code of the frame alone, by whether the length is a frame's, as the code asks first
-module _ (constant : ℕ) (f : List ℕ) (b : Bool) (e : b ≡ eqb (length_code (length f)) 0) where
-  pub code_length : b ≡ false → (r : ℕ) → r ≡ length_code (length f) → r ≡ frame_code constant f
-  code_length h r q = q ∙ frame_length constant f (length_code (length f)) refl (eqb-false _ _ (sym e ∙ h))
-
-  module _ (h : b ≡ true) (x : ℕ) (q : x ≡ constant_field f) where
-    size_good : length_code (length f) ≡ 0
-    size_good = eqb-true _ _ (sym e ∙ h)
-
-    pub code_constant : (x ≡ constant → ⊥) → 3 ≡ frame_code constant f
-    code_constant = frame_constant constant f (length_code (length f)) refl size_good x q
-
-    pub code_passes : x ≡ constant → 0 ≡ frame_code constant f
-    code_passes = frame_passes constant f (length_code (length f)) refl size_good x q
 
 -- a frame of code 0 has the size of a frame
 pub frame_zero : (constant : ℕ) (f : List ℕ) → frame_code constant f ≡ 0 → length_code (length f) ≡ 0
@@ -111,32 +92,12 @@ module _ (l : Link) (n port : ℕ) where
       (λ e. absurd (omega (arith, simp (e, c) at z))))
       (λ c. ltb-false _ _ c)
 
--- ---- the route, by the link that the number leads to
-abbrev route_by : Lookup → Route
-route_by (Present l) = OnLink l
-route_by Absent = Stopped 4
-
-route_by_lem : (links : List ℕ) (d : Found) → route_by (lookup_in links d) ≡ route_to links d
-route_by_lem links (At j) = refl
-route_by_lem links Nowhere = refl
-
 -- ---- the route, by the code h of the frame alone
 module _ (f : List ℕ) (constant : ℕ) (links : List ℕ) (count h : ℕ) (e : h ≡ frame_code constant f) where
-  pub route_stopped : (h ≡ 0 → ⊥) → Stopped h ≡ routed f constant links count
+  pub route_stopped : (h ≡ 0 → ⊥) → Err h ≡ routed f constant links count
   unfolding routed
   route_stopped z = simp (e, ne_eqb (frame_code constant f) 0 (rw e at z))
 
-  module _ (z : h ≡ 0) (x : ℕ) (p : x ≡ link_number f) where
-    pub route_row : (d : Found) → d ≡ found links count x → route_to links d ≡ routed f constant links count
-    unfolding routed
-    route_row d q = simp (q, p, eq-eqb (frame_code constant f) 0 (sym e ∙ z))
-
-    module _ (w : Lookup) (q : w ≡ lookup_in links (found links count x)) where
-      by_lookup : route_by w ≡ routed f constant links count
-      by_lookup = ap route_by q ∙ route_by_lem links (found links count x) ∙ route_row (found links count x) refl
-
-      pub route_unknown : w ≡ Absent → Stopped 4 ≡ routed f constant links count
-      route_unknown r = ap route_by (sym r) ∙ by_lookup
-
-      pub route_link : (l : Link) → w ≡ Present l → OnLink l ≡ routed f constant links count
-      route_link l r = ap route_by (sym r) ∙ by_lookup
+  pub route_row : h ≡ 0 → (x : ℕ) → x ≡ link_number f → (d : Found) → d ≡ found links count x → route_to links d ≡ routed f constant links count
+  unfolding routed
+  route_row z x p d q = simp (q, p, eq-eqb (frame_code constant f) 0 (sym e ∙ z))

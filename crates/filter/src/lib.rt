@@ -1,61 +1,48 @@
-// The filter of a frame: the codes that are checked before a link's account is looked at, and the link itself. Every
-// function is total.
+// The filter of a frame: the checks before a link's account is looked at, and the link itself. Every function is total.
 #![tactic(auto)]
 
 ghost use Rattle.std.specs.Prelude.{◌≡◌};
-ghost use Rattle.filter.specs.Filter.{frame_code, port_code, routed};
+ghost use Rattle.codes.specs.Refused.{code_of};
+ghost use Rattle.filter.specs.Filter.{frame_code, port_code, route_of, routed};
 
-use tables::{Link, Lookup};
+use codes::Refusal;
+use tables::Link;
 
-// The route of a frame before the account is looked at: a refusal's code, or the link.
-#[derive(Clone, Copy)]
-pub enum Route {
-    Stopped(u8),
-    OnLink(Link),
-}
-
-// The code by the frame alone: the first of 1, 2 and 3 that fits, or 0.
-pub fn frame_code(frame: &[u8], constant: u32) -> u8
-    ensures { result ≡ frame_code constant frame.now }
+// Refuses a frame by the frame alone: the first of 1, 2 and 3 that fits.
+#[tactic(auto, unfolding(crate::specs::Filter::frame_code))]
+pub fn check_frame(frame: &[u8], constant: u32) -> Result<(), Refusal>
+    ensures { code_of result ≡ frame_code constant frame.now }
 {
-    let octets = frame.len();
-    if !frame::is_frame_size(octets) {
-        return frame::length_code(octets);
-    }
+    frame::check_length(frame.len())?;
     if frame::constant_field(frame) != constant {
-        return codes::OTHER_CONSTANT;
+        return Err(Refusal::OtherConstant);
     }
-    codes::SUCCESS
+    Ok(())
 }
 
-// The link of a frame, or the code that stops the frame: 1, 2, 3 or 4.
-pub fn find_link(frame: &[u8], constant: u32, links: &[u8], count: usize) -> Route
-    ensures { result ≡ routed frame.now constant links.now count }
+// The link of a frame, or what stops the frame: 1, 2, 3 or 4.
+#[tactic(auto, unfolding(crate::specs::Filter::routed))]
+pub fn find_link(frame: &[u8], constant: u32, links: &[u8], count: usize) -> Result<Link, Refusal>
+    ensures { route_of result ≡ routed frame.now constant links.now count }
 {
-    let code = frame_code(frame, constant);
-    if code != codes::SUCCESS {
-        return Route::Stopped(code);
-    }
+    check_frame(frame, constant)?;
     let number = frame::link_number(frame);
-    let lookup = tables::look_up(links, count, number);
-    match lookup {
-        Lookup::Absent => Route::Stopped(codes::UNKNOWN_LINK),
-        Lookup::Present(link) => Route::OnLink(link),
-    }
+    tables::look_up(links, count, number).ok_or(Refusal::UnknownLink)
 }
 
-// The code by the link: the first of 5, 6 and 7 that fits, or 0.
-pub fn port_code(link: Link, octets: usize, port: u32) -> u8
-    ensures { result ≡ port_code link octets port }
+// Refuses a frame by its link: the first of 5, 6 and 7 that fits.
+#[tactic(auto, unfolding(crate::specs::Filter::port_code))]
+pub fn check_port(link: Link, octets: usize, port: u32) -> Result<(), Refusal>
+    ensures { code_of result ≡ port_code link octets port }
 {
     if port != link.port as u32 {
-        return codes::OTHER_PORT;
+        return Err(Refusal::OtherPort);
     }
     if octets < link.smallest as usize {
-        return codes::BELOW_SMALLEST;
+        return Err(Refusal::BelowSmallest);
     }
     if (link.largest as usize) < octets {
-        return codes::ABOVE_LARGEST;
+        return Err(Refusal::AboveLargest);
     }
-    codes::SUCCESS
+    Ok(())
 }

@@ -14,9 +14,8 @@ use lib.Seq.{length-take-le, take_at, drop_at, get_or_at}
 use Rattle.octets.specs.Numbers.{number_at}
 use Rattle.octets.specs.Spelled.{spelled, Fit}
 use Rattle.octets.proofs.Spelled.{spelled_reads, length_spelled}
-use Rattle.frame.specs.Frame.{length_code, sequence_number, sequence_offset, header_of, payload_start, payload_of, payload_place}
+use Rattle.frame.specs.Frame.{Reading, length_code, sequence_number, sequence_offset, header_of, payload_start, payload_of, payload_place}
 use Rattle.frame.specs.Claims.{LengthLimits, ReadingCodes, ReadingAnswers, ReadingRefused, PayloadLength, head_parts, frame_of, FrameRead, FrameReadsBack, FrameFigures}
-use Rattle.frame.specs.declared.Header.{Header}
 use Rattle.frame.proofs.Frame.{by_length, within, length_good, header_code, header_refused, header_read, payload_refused, payload_read}
 
 pub reading_answers : ReadingAnswers
@@ -35,8 +34,8 @@ reading_refused f place h =
     let k : length_code (length f) ≡ 0 → ⊥ = λ z. h (header_code f ∙ z) in
     let e = header_refused f (length_code (length f)) refl k in
     let p = payload_refused f (length_code (length f)) refl place k in (
-      ap (λ (x : Header). x.link) (sym e),
-      ap (λ (x : Header). x.sequence) (sym e),
+      ap (λ (x : Reading). x.link) (sym e),
+      ap (λ (x : Reading). x.sequence) (sym e),
       sym p.0,
       sym p.1 ∙ ap (λ (o : ℕ). (place.0, o)) (zero-add place.1),
     )

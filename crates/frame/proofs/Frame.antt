@@ -1,17 +1,16 @@
 -- Laws of the frame's definitions, case by case. Assumes nothing.
 use Prim.Native.Nat.{ℕ, ◌+◌, ◌-◌, ◌≤◌, ◌<◌}
-use mathlib.Core.Bool.{false}
-use mathlib.Core.Path.{◌≡◌, sym, ap, ◌∙◌}
+use mathlib.Core.Bool.{true}
+use mathlib.Core.Path.{◌≡◌, sym, ◌∙◌}
 use mathlib.Core.List.{List, []}
 use native.Mathlib.Nat.{zero-add}
 use native.Mathlib.Omega.{arith}
-use lib.Dec.{ltb, leb, eqb}
+use lib.Dec.{ltb, eqb}
 use lib.ListN.{length, take, drop}
-use borrow.Author.Tests.{ltb-true, ltb-false, leb-true, leb-false, lt-ltb, le-ltb, eq-eqb, ne_eqb, eqb-true}
+use borrow.Author.Tests.{ltb-true, ltb-false, lt-ltb, le-ltb, eq-eqb, ne_eqb, eqb-true}
 use Rattle.lists.proofs.Tests.{split}
 use Rattle.frame.specs.Limits.{smallest_frame, largest_frame}
-use Rattle.frame.specs.declared.Header.{Header}
-use Rattle.frame.specs.Frame.{length_code, link_number, sequence_number, sequence_offset, header_of, payload_start, payload_of, payload_place}
+use Rattle.frame.specs.Frame.{Reading, length_code, link_number, sequence_number, sequence_offset, header_of, payload_start, payload_of, payload_place}
 
 -- ---- the code of a length
 module _ (n : ℕ) where
@@ -47,15 +46,9 @@ module _ (n : ℕ) where
       (λ _ _ e. absurd (omega arith))
       (λ h k _. (h, k))
 
-  -- whether a length is a frame's, test by test as the code makes them
-  pub size_short : n < smallest_frame → false ≡ eqb (length_code n) 0
-  size_short h = sym (ap (λ (c : ℕ). eqb c 0) (length_short h))
-
-  pub size_rest : smallest_frame ≤ n → leb n largest_frame ≡ eqb (length_code n) 0
-  size_rest h =
-      split (leb n largest_frame)
-      (λ e. e ∙ sym (ap (λ (c : ℕ). eqb c 0) (length_good h (leb-true _ _ e))))
-      (λ e. e ∙ sym (ap (λ (c : ℕ). eqb c 0) (length_long h (leb-false _ _ e))))
+  -- a length that passes the test of the code
+  pub fits : eqb (length_code n) 0 ≡ true → (smallest_frame ≤ n) × (n ≤ largest_frame)
+  fits e = within (eqb-true _ _ e)
 
 -- a frame that is read has the smallest size or more
 pub long_enough_lem : (n r : ℕ) → r ≡ length_code n → r ≡ 0 → smallest_frame ≤ n
@@ -63,12 +56,12 @@ long_enough_lem n r e z = (within n (sym e ∙ z)).0
 
 -- ---- frame reading, by the code r of the length
 module _ (f : List ℕ) (r : ℕ) (e : r ≡ length_code (length f)) where
-  pub header_refused : (r ≡ 0 → ⊥) → ◌≡◌ {A = Header} (record { code = r; link = 0; sequence = 0 }) (header_of f)
+  pub header_refused : (r ≡ 0 → ⊥) → ◌≡◌ {A = Reading} (record { code = r; link = 0; sequence = 0 }) (header_of f)
   unfolding header_of
   header_refused h = simp (e, ne_eqb (length_code (length f)) 0 (rw e at h))
 
   pub header_read : (l s : ℕ) → r ≡ 0 → l ≡ link_number f → s ≡ sequence_number f
-      → ◌≡◌ {A = Header} (record { code = 0; link = l; sequence = s }) (header_of f)
+      → ◌≡◌ {A = Reading} (record { code = 0; link = l; sequence = s }) (header_of f)
   unfolding header_of
   header_read l s z p q = simp (p, q, eq-eqb (length_code (length f)) 0 (sym e ∙ z))
 

@@ -1,6 +1,8 @@
 -- What the octets of a frame say (document 01, "The frame").
-use Rattle.std.specs.Prelude.{ℕ, ◌+◌, ◌-◌, List, [], length, get_or, take, drop, ltb, eqb}
+use Rattle.std.specs.Prelude.{ℕ, ◌+◌, ◌-◌, List, [], length, get_or, take, drop, ltb, eqb, Result, Ok, Err}
 use Rattle.codes.specs.Codes
+use Rattle.codes.specs.Refused.{number_of}
+use Rattle.codes.specs.declared.Refusal.{Refusal}
 use Rattle.std.specs.Prelude.{if◌then◌else◌}
 use Rattle.octets.specs.Numbers.{number_at}
 use Rattle.frame.specs.Limits.{smallest_frame, largest_frame}
@@ -29,8 +31,18 @@ sequence_offset f = length f - sequence_from_end
 abbrev pub sequence_number : List ℕ → ℕ
 sequence_number f = get_or f (sequence_offset f) 0
 
+-- what reading a frame says: the code, the link and the sequence number; and that from what the code gives
+pub record Reading : Type 0 where
+  pub code : ℕ
+  pub link : ℕ
+  pub sequence : ℕ
+
+abbrev pub reading_of : Result Header Refusal → Reading
+reading_of (Ok h) = record { code = Codes.success; link = h.link; sequence = h.sequence }
+reading_of (Err r) = record { code = number_of r; link = 0; sequence = 0 }
+
 -- frame reading: the code, the link and the sequence number; zeros after a refusal
-unfoldable pub header_of : List ℕ → Header
+unfoldable pub header_of : List ℕ → Reading
 header_of f =
     if eqb (length_code (length f)) Codes.success
     then record { code = Codes.success; link = link_number f; sequence = sequence_number f }

@@ -1,132 +1,58 @@
-// The checks of one field of an image: the code of the head, and that of the field after so many accounts and links. Every
-// function is total.
+// The checks of one field of an image: of the head, and of the field after so many accounts and links. Every function is
+// total.
 #![tactic(auto)]
 
-ghost use Rattle.std.specs.Prelude.{◌≡◌};
-ghost use Rattle.image_field.specs.Checks.{field_code, head_good, head_code, in_order, data_octets, is_full, values_good, next_code};
+ghost use Rattle.std.specs.Prelude.{◌≡◌, true, false, MatchResult};
+ghost use Rattle.codes.specs.Refused.{fault_code};
+ghost use Rattle.image_field.specs.Checks.{head_good, head_code, next_code};
 
-use fields::Field;
+mod kind;
 
-// The code of a field, or 0: by the octets left, the tag, the length, the data, the limit and the values.
-fn field_code(field: Field, order: bool, size: usize, full: bool, good: bool) -> u8
-    ensures { result ≡ field_code field order size full good }
+use codes::Fault;
+use image_layout::{CONSTANT_OFFSET, EDITION, EDITION_OFFSET, HEAD_OCTETS, HEAD_TAG};
+use kind::Kind;
+
+// Finds a fault unless the condition holds.
+fn require(holds: bool, fault: Fault) -> Result<(), Fault>
+    ensures { MatchResult result (λ _. holds ≡ true) (λ e. (holds ≡ false) × (e ≡ fault)) }
 {
-    if !field.headed {
-        return codes::CUT;
-    }
-    if !order {
-        return codes::WRONG_TAG;
-    }
-    if field.size as usize != size {
-        return codes::WRONG_LENGTH;
-    }
-    if !field.whole {
-        return codes::CUT;
-    }
-    if full {
-        return codes::BAD_COUNT;
-    }
-    if good {
-        codes::SUCCESS
-    } else {
-        codes::BAD_VALUE
-    }
+    if holds { Ok(()) } else { Err(fault) }
 }
 
 // Whether the head has the edition and a constant field of the right form.
+#[tactic(auto, unfolding(crate::specs::Checks::head_good))]
 fn head_good(image: &[u8]) -> bool
     ensures { result ≡ head_good image.now }
 {
-    if octets::octet_at(image, image_layout::EDITION_OFFSET) != image_layout::EDITION {
-        return false;
-    }
-    image_layout::constant_good(octets::u32_at(image, image_layout::CONSTANT_OFFSET))
+    octets::octet_at(image, EDITION_OFFSET) == EDITION
+        && image_layout::constant_good(octets::number_at(image, CONSTANT_OFFSET))
 }
 
-// The code of the head, or 0.
-pub fn head_code(image: &[u8]) -> u8
-    ensures { result ≡ head_code image.now }
+// Checks the head, in document 01's order.
+#[tactic(auto, unfolding(crate::specs::Checks::head_code, crate::specs::Checks::field_code))]
+pub fn check_head(image: &[u8]) -> Result<(), Fault>
+    ensures { fault_code result ≡ head_code image.now }
 {
-    let field = fields::read(image, 0);
-    let good = head_good(image);
-    field_code(
-        field,
-        field.tag == image_layout::HEAD_TAG,
-        image_layout::HEAD_OCTETS,
-        false,
-        good,
-    )
+    let head = fields::read(image, 0);
+    require(head.headed, Fault::Cut)?;
+    require(head.tag == HEAD_TAG, Fault::WrongTag)?;
+    require(head.size as usize == HEAD_OCTETS, Fault::WrongLength)?;
+    require(head.whole, Fault::Cut)?;
+    require(head_good(image), Fault::BadValue)
 }
 
-// Whether a tag may stand after so many accounts and links.
-fn in_order(tag: u8, accounts: u16, links: u16) -> bool
-    ensures { result ≡ in_order tag accounts links }
-{
-    if accounts == 0 {
-        return tag == image_layout::ACCOUNT_TAG;
-    }
-    if tag == image_layout::LINK_TAG {
-        return true;
-    }
-    if links == 0 {
-        return tag == image_layout::ACCOUNT_TAG;
-    }
-    tag == image_layout::END_TAG
-}
-
-// The length of a tag's data.
-fn data_octets(tag: u8) -> usize
-    ensures { result ≡ data_octets tag }
-{
-    if tag == image_layout::ACCOUNT_TAG {
-        return tables::ACCOUNT_OCTETS;
-    }
-    if tag == image_layout::LINK_TAG {
-        return tables::LINK_OCTETS;
-    }
-    0
-}
-
-// Whether one more field of this tag is over the limit.
-fn is_full(tag: u8, accounts: u16, links: u16) -> bool
-    ensures { result ≡ is_full tag accounts links }
-{
-    if tag == image_layout::ACCOUNT_TAG {
-        return image_layout::MAX_ACCOUNTS <= accounts;
-    }
-    if tag == image_layout::LINK_TAG {
-        return image_layout::MAX_LINKS <= links;
-    }
-    false
-}
-
-// Whether the values of the field after so many accounts and links keep their rules.
-fn values_good(image: &[u8], tag: u8, accounts: u16, links: u16) -> bool
-    ensures { result ≡ values_good image.now tag accounts links }
-{
-    if tag == image_layout::ACCOUNT_TAG {
-        return tables_rules::account_good(image, image_layout::account_fields(), accounts);
-    }
-    if tag == image_layout::LINK_TAG {
-        return tables_rules::link_good(
-            image,
-            image_layout::account_fields(),
-            accounts,
-            image,
-            image_layout::link_fields(accounts),
-            links,
-        );
-    }
-    true
-}
-
-// The code of the field after so many accounts and links, or 0.
-pub fn next_code(image: &[u8], accounts: u16, links: u16) -> u8
-    ensures { result ≡ next_code image.now accounts links }
+// Checks the field after so many accounts and links, in document 01's order.
+#[tactic(auto, using(crate::proofs::Checks::unknown_tag), unfolding(crate::specs::Checks::next_code, crate::specs::Checks::field_code, crate::specs::Kind::kind_of))]
+pub fn check_next(image: &[u8], accounts: u16, links: u16) -> Result<(), Fault>
+    ensures { fault_code result ≡ next_code image.now accounts links }
 {
     let field = fields::read(image, image_layout::field_offset(accounts, links));
-    let order = in_order(field.tag, accounts, links);
-    let full = is_full(field.tag, accounts, links);
-    let good = values_good(image, field.tag, accounts, links);
-    field_code(field, order, data_octets(field.tag), full, good)
+    require(field.headed, Fault::Cut)?;
+    let kind = Kind::try_from(field.tag)?;
+    require(kind.may_follow(accounts, links), Fault::WrongTag)?;
+    let octets = kind.data_octets();
+    require(field.size as usize == octets, Fault::WrongLength)?;
+    require(field.whole, Fault::Cut)?;
+    require(!kind.is_full(accounts, links), Fault::BadCount)?;
+    require(kind.values_good(image, accounts, links), Fault::BadValue)
 }

@@ -1,49 +1,64 @@
 // Filling the lent runs from an image. A run that is too short is left as it is. Every function is total.
 #![tactic(auto)]
 
-ghost use Rattle.std.specs.Prelude.{◌≡◌, replicate};
+ghost use Rattle.std.specs.Prelude.{◌≡◌, ◌∷◌, [], replicate};
 ghost use Rattle.octets.specs.Runs.{joined, put};
 ghost use Rattle.terms.specs.Terms.{checked_capacity};
 ghost use Rattle.rows.specs.Rows.{row_octets};
+ghost use Rattle.rows.specs.Spaced.{rows_of};
 ghost use Rattle.tables.specs.Rows.{account_in};
-ghost use Rattle.image_field.specs.Checks.{field_rows, account_fields};
-ghost use Rattle.image_fill.specs.Filling.{checked_capacities, account_rows, link_rows};
+ghost use Rattle.image_fill.specs.Filling.{long_enough, checked_filled};
+ghost use Rattle.image_fill.specs.Lent.{runs_in, SameRuns};
 
-// Writes the data of n fields of `size` octets, the first field at `first`, side by side into `rows`.
-fn copy_rows(image: &[u8], first: usize, size: u8, n: u16, rows: &mut [u8])
-    ensures { rows.new ≡ put rows.old 0 (joined (row_octets size (field_rows image.now first size)) n) }
-{
-    let wide = size as usize;
-    if !octets::has_room(rows.len(), 0, wide * n as usize) {
-        return;
-    }
-    let start = octets::least(first, image.len());
-    let mut i: u16 = 0;
-    while i < n {
-        let at = start + (fields::TAG_AND_LENGTH + wide) * i as usize;
-        octets_write::copy(image, at, wide, rows, wide * i as usize);
-        i += 1;
+use rows::SpacedRows;
+use tables::{Link, Row};
+use terms::Terms;
+
+// The runs that loading is lent: rows of accounts, credits, last times, rows of links.
+#[derive(Drop)]
+pub struct LentRuns<'a> {
+    pub accounts: &'a mut [u8],
+    pub credits: &'a mut [u32],
+    pub lasts: &'a mut [u64],
+    pub links: &'a mut [u8],
+}
+
+impl LentRuns<'_> {
+    // Whether the runs are long enough for so many accounts and links.
+    #[tactic(auto, unfolding(crate::specs::Filling::runs_hold))]
+    pub fn holds(&self, accounts: u16, links: u16) -> bool
+        ensures { result ≡ long_enough accounts links (runs_in self.now) }
+    {
+        tables::ACCOUNT_OCTETS * accounts as usize <= self.accounts.len()
+            && accounts as usize <= self.credits.len()
+            && accounts as usize <= self.lasts.len()
+            && tables::LINK_OCTETS * links as usize <= self.links.len()
     }
 }
 
-// The capacity of account i of the image.
-fn capacity_of(image: &[u8], i: u16) -> u32
-    ensures { result ≡ checked_capacity (account_in (account_fields image.now) i) }
+// Writes the data of the first n rows side by side into `to`.
+fn copy_rows<R: Row>(from: SpacedRows, n: u16, to: &mut [u8])
+    ensures { to.new ≡ put to.old 0 (joined (row_octets R.OCTETS (rows_of from.entry)) n) }
 {
-    tables::terms_at(image, image_layout::data_offset(i, 0)).capacity()
+    let width = R::OCTETS;
+    if to.len() < width * n as usize {
+        return;
+    }
+    for i in 0..n {
+        octets_write::copy(from.octets, from.offset(i), width, to, width * i as usize);
+    }
 }
 
 // Writes the capacities of the first n accounts into `credits`.
-fn fill_credits(image: &[u8], n: u16, credits: &mut [u32])
-    ensures { credits.new ≡ put credits.old 0 (checked_capacities image.now n) }
+fn fill_credits(accounts: SpacedRows, n: u16, credits: &mut [u32])
+    ensures { credits.new ≡ put credits.old 0 (joined (λ i. checked_capacity (account_in (rows_of accounts.entry) i) ∷ []) n) }
 {
-    if !octets::has_room(credits.len(), 0, n as usize) {
+    if credits.len() < n as usize {
         return;
     }
-    let mut i: u16 = 0;
-    while i < n {
-        credits[i as usize] = capacity_of(image, i);
-        i += 1;
+    for i in 0..n {
+        let terms: Terms = tables::row_at(accounts.octets, accounts.offset(i));
+        credits[i as usize] = terms.capacity();
     }
 }
 
@@ -51,45 +66,21 @@ fn fill_credits(image: &[u8], n: u16, credits: &mut [u32])
 fn clear_lasts(n: u16, lasts: &mut [u64])
     ensures { lasts.new ≡ put lasts.old 0 (replicate n 0) }
 {
-    if !octets::has_room(lasts.len(), 0, n as usize) {
+    if lasts.len() < n as usize {
         return;
     }
-    let mut i: u16 = 0;
-    while i < n {
-        lasts[i as usize] = 0;
-        i += 1;
-    }
+    lasts[..n as usize].fill(0);
 }
 
 // Fills the four runs: the rows of n accounts with their credits and last times, and the rows of m links.
-pub fn fill_runs(
-    image: &[u8],
-    n: u16,
-    m: u16,
-    accounts: &mut [u8],
-    credits: &mut [u32],
-    lasts: &mut [u64],
-    links: &mut [u8],
-)
-    ensures accounts { accounts.new ≡ put accounts.old 0 (account_rows image.now n) }
-    ensures credits { credits.new ≡ put credits.old 0 (checked_capacities image.now n) }
-    ensures lasts { lasts.new ≡ put lasts.old 0 (replicate n 0) }
-    ensures links { links.new ≡ put links.old 0 (link_rows image.now n m) }
+#[tactic(auto, unfolding(crate::specs::Filling::checked_filled, crate::specs::Filling::account_rows, crate::specs::Filling::link_rows))]
+pub fn fill_runs(image: &[u8], n: u16, m: u16, runs: &mut LentRuns)
+    ensures filled { runs_in runs.new ≡ checked_filled image.now n m (runs_in runs.old) }
+    ensures same_runs { SameRuns runs.old runs.new }
 {
-    copy_rows(
-        image,
-        image_layout::data_offset(0, 0),
-        tables::ACCOUNT_OCTETS as u8,
-        n,
-        accounts,
-    );
-    fill_credits(image, n, credits);
-    clear_lasts(n, lasts);
-    copy_rows(
-        image,
-        image_layout::data_offset(n, 0),
-        tables::LINK_OCTETS as u8,
-        m,
-        links,
-    );
+    let accounts = image_layout::account_fields(image);
+    copy_rows::<Terms>(accounts, n, runs.accounts);
+    fill_credits(accounts, n, runs.credits);
+    clear_lasts(n, runs.lasts);
+    copy_rows::<Link>(image_layout::link_fields(image, n), m, runs.links);
 }

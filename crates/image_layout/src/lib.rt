@@ -3,9 +3,10 @@
 
 ghost use Rattle.std.specs.Prelude.{◌≡◌};
 ghost use Rattle.image_layout.specs.Layout.{account_size, link_size, field_offset, data_offset, image_prefix, constant_good};
-ghost use Rattle.rows.specs.Rows.{spacing};
+ghost use Rattle.rows.specs.Rows.{spaced};
+ghost use Rattle.rows.specs.Spaced.{rows_of};
 
-use rows::Spacing;
+use rows::SpacedRows;
 
 // The tags, and the only edition.
 pub const HEAD_TAG: u8 = 1;
@@ -66,21 +67,23 @@ pub fn data_offset(accounts: u16, links: u16) -> usize
         + fields::TAG_AND_LENGTH
 }
 
-// The spacing of the accounts' data in an image.
-pub fn account_fields() -> Spacing
-    ensures { result ≡ spacing (data_offset 0 0) account_size }
+// The accounts' data in an image, as rows.
+pub fn account_fields(image: &[u8]) -> SpacedRows
+    ensures { rows_of result ≡ spaced image.now (data_offset 0 0) account_size }
 {
-    Spacing {
+    SpacedRows {
+        octets: image,
         first: data_offset(0, 0),
         step: ACCOUNT_SIZE as u8,
     }
 }
 
-// The spacing of the links' data in an image with so many accounts.
-pub fn link_fields(accounts: u16) -> Spacing
-    ensures { result ≡ spacing (data_offset accounts 0) link_size }
+// The links' data in an image with so many accounts, as rows.
+pub fn link_fields(image: &[u8], accounts: u16) -> SpacedRows
+    ensures { rows_of result ≡ spaced image.now (data_offset accounts 0) link_size }
 {
-    Spacing {
+    SpacedRows {
+        octets: image,
         first: data_offset(accounts, 0),
         step: LINK_SIZE as u8,
     }

@@ -1,15 +1,15 @@
 -- What holds of loading for any octets and any runs. Assumes nothing.
 use Prim.Native.Nat.{ℕ, ◌+◌, ◌*◌, ◌≤◌}
-use mathlib.Core.Bool.{false, ◌&&◌, false≢true}
+use mathlib.Core.Bool.{false, false≢true}
 use mathlib.Core.List.{List, [], ◌∷◌, Memᴰ}
 use mathlib.Core.Path.{◌≡◌, refl, sym, ap, ◌∙◌}
 use native.Mathlib.Omega.{arith}
 use lib.Dec.{leb}
 use lib.ListN.{length, drop, replicate, length-replicate}
 use lib.Seq.{drop_at}
-use borrow.Author.Tests.{leb-true, leb-false, le-leb}
+use borrow.Author.Tests.{leb-true, leb-false}
 use Rattle.octets.specs.Runs.{put}
-use Rattle.lists.proofs.Tests.{split, both}
+use Rattle.lists.proofs.Tests.{split}
 use Rattle.octets.proofs.Runs.{put_fits, put_no_room}
 use Rattle.tables.specs.Rows.{account_octets, link_octets}
 use Rattle.image_read.specs.Read.{image_refused, read_image}
@@ -17,8 +17,7 @@ use Rattle.image_field.specs.Checks.{account_fields}
 use Rattle.image_read.proofs.Accepted.{accepted, refused_zeros}
 use Rattle.image_read.proofs.Claims.{listed, code_listed, not_26, offset_inside}
 use Rattle.image_fill.specs.Filling.{Runs, account_rows, link_rows, capacities, filled}
-use Rattle.image_load.specs.Loading.{runs_hold}
-use Rattle.image_load.specs.Claims.{LoadCodes, RefusedLoadKeeps, LongEnoughExactly, LoadRefuses, OffsetsInside, RowsBeyondKept}
+use Rattle.image_load.specs.Claims.{LoadCodes, RefusedLoadKeeps, LoadRefuses, OffsetsInside, RowsBeyondKept}
 use Rattle.image_load.proofs.Loading.{runs_held, by_load, length_account_rows, length_link_rows, length_capacities}
 
 -- ---- codes
@@ -36,18 +35,6 @@ refused_load_keeps s r =
     (λ d _. let z = refused_zeros s d in (refl, z.0, z.1, z.2))
     (λ z _ d. absurd (d z))
     (λ _ _ _. (refl, refl, refl, refl))
-
--- ---- the lengths of runs, from the definition alone
-pub long_enough_exactly : LongEnoughExactly
-unfolding runs_hold
-long_enough_exactly n m r = (
-  λ e.
-      let a = both (leb (6 * n) (length r.accounts) && leb n (length r.credits) && leb n (length r.lasts)) (leb (13 * m) (length r.links)) e in
-      let b = both (leb (6 * n) (length r.accounts) && leb n (length r.credits)) (leb n (length r.lasts)) a.0 in
-      let c = both (leb (6 * n) (length r.accounts)) (leb n (length r.credits)) b.0 in
-      (leb-true _ _ c.0, leb-true _ _ c.1, leb-true _ _ b.1, leb-true _ _ a.1),
-  λ h. simp (le-leb _ _ h.0, le-leb _ _ h.1, le-leb _ _ h.2, le-leb _ _ h.3),
-)
 
 -- ---- what loading answers where it refuses
 pub load_refuses : LoadRefuses

@@ -17,16 +17,15 @@ use Rattle.terms.specs.Terms.{capacity}
 use Rattle.rows.specs.Rows.{Rows, row_octets}
 use Rattle.tables.specs.Rows.{account_octets, link_octets, account_table, link_table, account_in, link_in}
 use Rattle.tables_rules.specs.Rules.{link_sound, number_rises, link_good}
-use Rattle.tables.proofs.Rows.{terms_same, link_same}
+use Rattle.tables.specs.Laws.{terms_same, link_same}
 use Rattle.tables_rules.proofs.Rules.{account_good_same, link_good_same}
 use Rattle.image_read.specs.Read.{good_accounts, good_links, read_image}
 use Rattle.image_field.specs.Checks.{account_fields, link_fields}
-use Rattle.image_load.specs.Loading.{runs_hold}
-use Rattle.image_fill.specs.Filling.{Runs, runs_of, account_rows, link_rows, capacities, filled}
+use Rattle.image_fill.specs.Filling.{runs_hold, Runs, runs_of, account_rows, link_rows, capacities, filled}
 use Rattle.image_load.specs.Fresh.{Begins, Fresh, LoadFresh, LoadAccepts, HoldsImage, FreshHolds, FreshSound}
 use Rattle.image_read.proofs.Reading.{few_read}
 use Rattle.image_load.proofs.Loading.{runs_held, by_load, length_account_rows, length_link_rows, length_capacities}
-use Rattle.image_load.proofs.Claims.{long_enough_exactly}
+use Rattle.image_fill.proofs.Claims.{long_enough_exactly}
 use Rattle.image_read.proofs.Accepted.{Accepted, accepted, counted_account, counted_link, good_account, good_link, some_accounts, some_links}
 
 -- what the test of the runs' lengths says of these lengths
@@ -69,12 +68,6 @@ module _ (xs ys : List ℕ) (e : Begins xs ys) where
 
 -- rows of w octets at the beginning of a run
 module _ (f : ℕ → List ℕ) (w : ℕ) (each : (i : ℕ) → length (f i) ≡ w) (n : ℕ) (d : List ℕ) (e : Begins (joined f n) d) where
-  pub rows_length : w * n ≤ length d
-  rows_length =
-      let l : length (joined f n) ≡ w * n = length_joined f w each n in
-      let h : length (joined f n) ≤ length d = begins_length (joined f n) d e in
-      omega arith
-
   -- each row stands at its offset
   pub rows_at : (i : ℕ) → i < n → octets_at w d (w * i) ≡ f i
   rows_at i h =

@@ -1,12 +1,12 @@
 -- What holds of loading for any octets and any runs whatsoever (document 01, "The configuration image"); proved in
 -- proofs/Claims.antt and proofs/Prefix.antt.
-use Rattle.std.specs.Prelude.{ℕ, ◌*◌, ◌≤◌, true, false, ◌↔◌, ◌≡◌, length, take, drop}
+use Rattle.std.specs.Prelude.{ℕ, ◌*◌, ◌≤◌, false, ◌≡◌, length, take, drop}
 use mathlib.Core.List.{List, [], ◌∷◌, Memᴰ}
 use Rattle.tables.specs.Rows.{account_octets, link_octets}
 use Rattle.image_layout.specs.Layout.{image_prefix}
 use Rattle.image_read.specs.Read.{image_refused, read_image}
-use Rattle.image_load.specs.Loading.{long_enough, loading}
-use Rattle.image_fill.specs.Filling.{Runs}
+use Rattle.image_load.specs.Loading.{loading}
+use Rattle.image_fill.specs.Filling.{Runs, long_enough}
 
 -- demand 1: the codes that loading can answer
 abbrev pub LoadCodes : Type 0
@@ -20,14 +20,6 @@ RefusedLoadKeeps =
     × ((loading s r).answer.settings.constant ≡ 0)
     × ((loading s r).answer.settings.accounts ≡ 0)
     × ((loading s r).answer.settings.links ≡ 0)
-
--- runs are long enough exactly where there is a row, a credit and a last time for every account, and a row for every
--- link
-abbrev pub LongEnoughExactly : Type 0
-LongEnoughExactly =
-    (n m : ℕ) (r : Runs)
-    → (long_enough n m r ≡ true)
-    ↔ ((6 * n ≤ length r.accounts) × (n ≤ length r.credits) × (n ≤ length r.lasts) × (13 * m ≤ length r.links))
 
 -- what reading refuses, loading refuses with the same answer; what reading accepts, loading refuses as 26 where a run
 -- is too short

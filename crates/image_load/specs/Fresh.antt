@@ -6,8 +6,8 @@ use Rattle.tables_rules.specs.Rules.{account_good, link_row_sound}
 use Rattle.image_layout.specs.Layout.{max_accounts, max_links}
 use Rattle.image_read.specs.Read.{read_image}
 use Rattle.image_field.specs.Checks.{account_fields, link_fields}
-use Rattle.image_load.specs.Loading.{long_enough, loading}
-use Rattle.image_fill.specs.Filling.{Runs, account_rows, link_rows, capacities}
+use Rattle.image_load.specs.Loading.{loading}
+use Rattle.image_fill.specs.Filling.{Runs, long_enough, account_rows, link_rows, capacities}
 
 -- ys begins with xs, whatever follows
 abbrev pub Begins : List ℕ → List ℕ → Type 0

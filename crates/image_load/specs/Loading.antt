@@ -1,12 +1,10 @@
 -- What loading an image answers and leaves in the four lent runs (document 01, "The configuration image" and "Credit, in whole
 -- units").
-use Rattle.std.specs.Prelude.{ℕ, ◌*◌, Bool, not, ◌&&◌, List, length, leb, eqb}
+use Rattle.std.specs.Prelude.{ℕ, not, List, length, eqb}
 use Rattle.codes.specs.Codes
 use Rattle.std.specs.Prelude.{if◌then◌else◌}
-use Rattle.tables.specs.Rows.{account_octets, link_octets}
-use Rattle.image_read.specs.Read.{image_refused, read_image}
-use Rattle.image_read.specs.declared.ImageAnswer.{ImageAnswer}
-use Rattle.image_fill.specs.Filling.{Runs, filled}
+use Rattle.image_read.specs.Read.{ImageAnswer, image_refused, read_image}
+use Rattle.image_fill.specs.Filling.{Runs, runs_hold, filled}
 
 -- an answer of loading, with the runs after loading
 pub record Loading : Type 0 where
@@ -15,14 +13,6 @@ pub record Loading : Type 0 where
 
 abbrev pub loading_of : ImageAnswer → Runs → Loading
 loading_of q r = record { answer = q; runs = r }
-
--- whether runs of these lengths are long enough for n accounts and m links
-unfoldable pub runs_hold : ℕ → ℕ → ℕ → ℕ → ℕ → ℕ → Bool
-runs_hold n m accounts credits lasts links =
-    leb (account_octets * n) accounts && leb n credits && leb n lasts && leb (link_octets * m) links
-
-abbrev pub long_enough : ℕ → ℕ → Runs → Bool
-long_enough n m r = runs_hold n m (length r.accounts) (length r.credits) (length r.lasts) (length r.links)
 
 -- the answer of loading, by the lengths of the runs: 26 only when nothing else is refused
 unfoldable pub load_answer : List ℕ → ℕ → ℕ → ℕ → ℕ → ImageAnswer

@@ -3,15 +3,12 @@ use Prim.Native.Nat.{ℕ, ◌+◌, ◌*◌, ◌≤◌, ◌<◌}
 use mathlib.Core.List.{List, [], ◌∷◌, ◌++◌}
 use mathlib.Core.Path.{◌≡◌, refl, sym, ap, ◌∙◌}
 use native.Mathlib.Omega.{arith}
-use mathlib.Core.Bool.{Bool, true}
-use lib.Dec.{leb}
 use lib.ListN.{length, set, length-append, length-set}
-use Rattle.octets.proofs.Tests.{fits_first}
 use Rattle.octets.specs.Numbers.{octets_of}
 use Rattle.octets.specs.Runs.{octets_at, joined, put}
 use Rattle.octets.proofs.Numbers.{length_octets}
 use Rattle.octets.proofs.Parts.{length_part, part_none, length_joined}
-use Rattle.octets.proofs.Runs.{put_one, put_after, length_written}
+use Rattle.octets.proofs.Runs.{put_no_room, put_one, put_after, length_written}
 use Rattle.rows.specs.Rows.{table_of, row_octets}
 use Rattle.tables.specs.Rows.{Config, account_octets, link_octets}
 use Rattle.fields.specs.Fields.{field_of, tag_and_length}
@@ -74,7 +71,7 @@ pub image_written : (g : Config) (d e1 e2 e3 e4 : List ℕ) (p1 p2 p3 : ℕ) →
     → e1 ≡ put d 0 (field_of head_tag (edition ∷ octets_of 4 g.constant))
     → e2 ≡ put e1 p1 (joined (row_field account_tag account_octets g.accounts) g.count_of_accounts)
     → e3 ≡ put e2 p2 (joined (row_field link_tag link_octets g.links) g.count_of_links)
-    → e4 ≡ put e3 p3 (field_of end_tag (octets_at 0 g.accounts 0))
+    → e4 ≡ put e3 p3 (field_of end_tag (octets_at 0 [] 0))
     → e4 ≡ put d 0 (image_of g)
 unfolding image_of field_offset
 image_written g d e1 e2 e3 e4 p1 p2 p3 h q1 q2 q3 v1 v2 v3 v4 =
@@ -92,7 +89,7 @@ image_written g d e1 e2 e3 e4 p1 p2 p3 h q1 q2 q3 v1 v2 v3 v4 =
     v2 ∙ ap (λ (x : List ℕ). put x p1 rows) v1 ∙ put_after d 0 head rows p1 (omega arith) (omega arith) in
     let w3 : e3 ≡ put d 0 (head ++ rows ++ ls) =
     v3 ∙ ap (λ (x : List ℕ). put x p2 ls) w2 ∙ put_after d 0 (head ++ rows) ls p2 (omega arith) (omega arith) in
-    v4 ∙ ap (λ (x : List ℕ). put e3 p3 (field_of end_tag x)) (part_none g.accounts 0)
+    v4 ∙ ap (λ (x : List ℕ). put e3 p3 (field_of end_tag x)) (part_none [] 0)
     ∙ ap (λ (x : List ℕ). put x p3 end) w3
     ∙ put_after d 0 (head ++ rows ++ ls) end p3 (omega arith) (omega arith)
 
@@ -100,9 +97,12 @@ image_written g d e1 e2 e3 e4 p1 p2 p3 h q1 q2 q3 v1 v2 v3 v4 =
 pub length_sized : (tag size : ℕ) (s : List ℕ) (at : ℕ) → length (field_of tag (octets_at size s at)) ≡ tag_and_length + size
 length_sized tag size s at = length_field tag (octets_at size s at) ∙ ap (λ (n : ℕ). tag_and_length + n) (length_part size s at)
 
--- the test of room, for a length that is known
-pub room_of : (len x y : ℕ) (r : Bool) → x ≡ y → r ≡ leb (0 + x) len → r ≡ true → y ≤ len
-room_of len x y r e v h = rw e at (fits_first len x r v h)
+-- without room nothing is written
+pub head_refused : (d : List ℕ) (c : ℕ) → length d < head_size → d ≡ put d 0 (field_of head_tag (edition ∷ octets_of 4 c))
+head_refused d c h = let l = head_size_lem c in sym (put_no_room d 0 _ (omega arith))
+
+pub image_refused : (d : List ℕ) (g : Config) (size : ℕ) → size ≡ image_length g.count_of_accounts g.count_of_links → length d < size → d ≡ put d 0 (image_of g)
+image_refused d g size e h = let l = length_image g in sym (put_no_room d 0 _ (omega arith))
 
 -- the room for the head is still there once the head's tag and length are written
 pub head_inside : (d e : List ℕ) (tag : ℕ) (xs : List ℕ) → head_size ≤ length d → e ≡ put (set d 0 tag) 1 xs → 3 < length e

@@ -9,17 +9,20 @@ ghost use Rattle.tables.specs.Rows.{config_of};
 ghost use Rattle.fields.specs.Fields.{field_of};
 ghost use Rattle.image_layout.specs.Layout.{head_tag, edition, image_of};
 
+use tables::LentTables;
+
 // Writes the head.
+#[tactic(auto, using(crate::proofs::Written::head_refused, crate::proofs::Written::head_inside, crate::proofs::Written::head_written))]
 fn put_head(room: &mut [u8], constant: u32)
     ensures { room.new ≡ put room.old 0 (field_of head_tag (edition ∷ octets_of 4 constant)) }
 {
-    if !octets::has_room(room.len(), 0, image_layout::HEAD_SIZE) {
+    if room.len() < image_layout::HEAD_SIZE {
         return;
     }
     room[0] = image_layout::HEAD_TAG;
-    octets_write::put_u16(room, 1, image_layout::HEAD_OCTETS as u16);
+    octets_write::put_number(room, 1, image_layout::HEAD_OCTETS as u16);
     room[image_layout::EDITION_OFFSET] = image_layout::EDITION;
-    octets_write::put_u32(room, image_layout::CONSTANT_OFFSET, constant);
+    octets_write::put_number(room, image_layout::CONSTANT_OFFSET, constant);
 }
 
 // Writes one field at an offset: the tag, the length, and `size` octets of the rows from `from` on.
@@ -30,7 +33,7 @@ fn put_field(room: &mut [u8], at: usize, tag: u8, rows: &[u8], from: usize, size
         return;
     }
     room[at] = tag;
-    octets_write::put_u16(room, at + 1, size as u16);
+    octets_write::put_number(room, at + 1, size as u16);
     octets_write::copy(rows, from, size as usize, room, at + fields::TAG_AND_LENGTH);
 }
 
@@ -44,33 +47,26 @@ fn put_fields(room: &mut [u8], at: usize, tag: u8, rows: &[u8], size: u8, n: u16
     if !octets::has_room(room.len(), at, step * n as usize) {
         return;
     }
-    let mut i: u16 = 0;
-    while i < n {
-        put_field(
-            room,
-            at + step * i as usize,
-            tag,
-            rows,
-            wide * i as usize,
-            size,
-        );
-        i += 1;
+    for i in 0..n {
+        let i = i as usize;
+        put_field(room, at + step * i, tag, rows, wide * i, size);
     }
 }
 
-// Writes the whole image. The end has no data, so nothing is read of the rows that are lent for the end.
-pub fn put_image(constant: u32, accounts: &[u8], n: u16, links: &[u8], m: u16, room: &mut [u8])
-    ensures { room.new ≡ put room.old 0 (image_of (config_of constant accounts.now n links.now m)) }
+// Writes the whole image of n accounts and m links. The end has no data.
+pub fn put_image(source: LentTables, n: u16, m: u16, room: &mut [u8])
+    ensures { room.new
+        ≡ put room.old 0 (image_of (config_of source.entry.settings.constant source.entry.accounts.now n source.entry.links.now m)) }
 {
-    if !octets::has_room(room.len(), 0, image_layout::data_offset(n, m)) {
+    if room.len() < image_layout::data_offset(n, m) {
         return;
     }
-    put_head(room, constant);
+    put_head(room, source.settings.constant);
     put_fields(
         room,
         image_layout::field_offset(0, 0),
         image_layout::ACCOUNT_TAG,
-        accounts,
+        source.accounts,
         tables::ACCOUNT_OCTETS as u8,
         n,
     );
@@ -78,7 +74,7 @@ pub fn put_image(constant: u32, accounts: &[u8], n: u16, links: &[u8], m: u16, r
         room,
         image_layout::field_offset(n, 0),
         image_layout::LINK_TAG,
-        links,
+        source.links,
         tables::LINK_OCTETS as u8,
         m,
     );
@@ -86,7 +82,7 @@ pub fn put_image(constant: u32, accounts: &[u8], n: u16, links: &[u8], m: u16, r
         room,
         image_layout::field_offset(n, m),
         image_layout::END_TAG,
-        accounts,
+        &[],
         0,
         0,
     );

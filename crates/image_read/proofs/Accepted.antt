@@ -2,7 +2,7 @@
 use Prim.Native.Nat.{ℕ, ◌+◌, ◌≤◌, ◌<◌}
 use mathlib.Core.Bool.{Bool, true, false, ◌&&◌, false≢true}
 use mathlib.Core.List.{List}
-use mathlib.Core.Path.{◌≡◌, refl, sym, ap₂, ◌∙◌}
+use mathlib.Core.Path.{◌≡◌, refl, sym, ap, ap₂, ◌∙◌}
 use native.Mathlib.Omega.{arith}
 use lib.Dec.{leb, eqb}
 use lib.ListN.{length, get_or}
@@ -14,10 +14,8 @@ use Rattle.lists.proofs.Leading.{leading_before, leading_fails}
 use Rattle.fields.specs.Fields.{tag_and_length, field_at}
 use Rattle.fields.specs.declared.Field.{Field}
 use Rattle.image_layout.specs.Layout.{head_tag, account_tag, link_tag, end_tag, head_octets, field_offset, image_length, max_accounts, max_links}
-use Rattle.image_read.specs.Read.{good_field, good_accounts, good_links, read_image}
+use Rattle.image_read.specs.Read.{ImageAnswer, good_field, good_accounts, good_links, read_image}
 use Rattle.image_field.specs.Checks.{field_code, head_good, head_code, account_fields, link_fields, in_order, data_octets, is_full, values_good, tag_at, next_code}
-use Rattle.image_read.specs.declared.ImageAnswer.{ImageAnswer}
-use Rattle.image_field.proofs.Checks.{full_account, full_link}
 use Rattle.image_read.proofs.Reading.{by_end, by_reading}
 
 -- ---- a field that passes every check
@@ -220,9 +218,9 @@ module _ (s : List ℕ) (n m : ℕ) (an : n ≡ good_accounts s) (am : m ≡ goo
   p = next_passes s n m z
 
   not_link : tag_at s n m ≡ link_tag → ⊥
-  unfolding good_links
+  unfolding good_links is_full
   not_link t =
-      let k : m < max_links = ltb_of (full_link (tag_at s n m) n m (λ a. omega arith) t ∙ p.few) in
+      let k : m < max_links = ltb_of (sym (ap (λ (x : ℕ). is_full x n m) t) ∙ p.few) in
       false≢true (sym (leading_fails (λ j. good_field s link_tag n j) max_links (rw am at k)) ∙ rw am at (good_by s link_tag n m t z))
 
   no_links : n ≡ 0 → m ≡ 0
@@ -234,9 +232,9 @@ module _ (s : List ℕ) (n m : ℕ) (an : n ≡ good_accounts s) (am : m ≡ goo
       absurd (link_first s n 0 (counted_link s n 0 (omega arith)) e))
 
   not_account : m ≡ 0 → tag_at s n m ≡ account_tag → ⊥
-  unfolding good_accounts
+  unfolding good_accounts is_full
   not_account e t =
-      let k : n < max_accounts = ltb_of (full_account (tag_at s n m) n m t ∙ p.few) in
+      let k : n < max_accounts = ltb_of (sym (ap (λ (x : ℕ). is_full x n m) t) ∙ p.few) in
       let g : good_field s account_tag n 0 ≡ true = rw e at (good_by s account_tag n m t z) in
       false≢true (sym (leading_fails (λ i. good_field s account_tag i 0) max_accounts (rw an at k)) ∙ rw an at g)
 

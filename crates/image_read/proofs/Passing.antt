@@ -18,7 +18,6 @@ use Rattle.fields.proofs.Fields.{stands_by, stands_tag, stands_length, stands_wh
 use Rattle.image_layout.specs.Layout.{head_tag, account_tag, link_tag, end_tag, edition, head_octets, head_size, field_offset, image_length, max_accounts, max_links, constant_good}
 use Rattle.image_read.specs.Read.{good_field, good_accounts, good_links, read_image}
 use Rattle.image_field.specs.Checks.{head_good, head_code, account_fields, link_fields, in_order, data_octets, is_full, values_good, code_by_tag, tag_at, next_code}
-use Rattle.image_field.proofs.Checks.{order_link, order_end}
 use Rattle.image_read.proofs.Accepted.{passes, good_by, good_tag, good_code, good_passes, link_first}
 use Rattle.image_read.proofs.Reading.{end_accepted, head_passed}
 
@@ -81,7 +80,17 @@ unfolding in_order
 account_ordered i = split (eqb i 0) (λ q. simp q) (λ q. simp q)
 
 link_ordered : (n j : ℕ) → 1 ≤ n → in_order link_tag n j ≡ true
-link_ordered n j h = sym (order_link link_tag n j (λ q. omega arith) refl)
+unfolding in_order
+link_ordered n j h =
+    let d : (n ≡ 0 → ⊥) = λ e. omega arith in
+    split (eqb j 0) (λ q. simp (ne_eqb _ _ d, q)) (λ q. simp (ne_eqb _ _ d, q))
+
+end_ordered : (n m : ℕ) → 1 ≤ n → 1 ≤ m → in_order end_tag n m ≡ true
+unfolding in_order
+end_ordered n m h k =
+    let d : (n ≡ 0 → ⊥) = λ e. omega arith in
+    let f : (m ≡ 0 → ⊥) = λ e. omega arith in
+    simp (ne_eqb _ _ d, ne_eqb _ _ f)
 
 module _ (s : List ℕ) where
   pub account_passes : (i : ℕ) → stands_at s (field_offset i 0) account_tag account_octets ≡ true → i < max_accounts
@@ -98,7 +107,7 @@ module _ (s : List ℕ) where
   unfolding data_octets is_full values_good
   end_passes n m p q w =
       good_code s end_tag n m
-      (field_passes s end_tag n m w (sym (order_end end_tag n m (λ y. omega arith) (λ y. omega arith) (λ y. omega arith))) refl refl)
+      (field_passes s end_tag n m w (end_ordered n m p q) refl refl)
 
 module _ (s : List ℕ) (i at : ℕ) (p : at ≡ field_offset i 0) (b : Bool) (e : b ≡ stands_at s at account_tag account_octets) where
   pub account_unlike : b ≡ false → false ≡ good_field s account_tag i 0

@@ -8,31 +8,28 @@ use native.Mathlib.Omega.{arith}
 use lib.Dec.{ltb, leb, eqb}
 use lib.ListN.{length, get_or, take}
 use lib.Seq.{length-take-le, take_all, get_or-take}
-use borrow.Author.Tests.{le-ltb, ltb-false, leb-true, leb-false, le-leb, eqb-true, eqb-false}
+use borrow.Author.Tests.{le-ltb, ltb-false, leb-true, leb-false, le-leb, eqb-true}
 use Rattle.octets.specs.Numbers.{number_at}
 use Rattle.lists.proofs.Tests.{split}
 use Rattle.octets.proofs.Numbers.{number_shift}
-use Rattle.tables.specs.Rows.{account_octets, link_octets, account_in, link_in}
+use Rattle.tables.specs.Rows.{link_octets, account_in, link_in}
 use Rattle.lists.proofs.Leading.{leading_same}
-use Rattle.tables.proofs.Rows.{terms_same, link_same}
+use Rattle.tables.specs.Laws.{terms_same, link_same}
 use Rattle.tables_rules.proofs.Rules.{account_good_same, link_good_same}
 use Rattle.fields.specs.Fields.{tag_and_length, field_at}
 use Rattle.image_layout.specs.Layout.{head_tag, account_tag, link_tag, head_octets, head_size, account_size, link_size, field_offset, image_length, max_accounts, max_links, image_prefix}
 use Rattle.image_read.specs.Read.{good_field, good_accounts, good_links, read_end, read_image}
 use Rattle.image_field.specs.Checks.{field_code, head_good, head_code, account_fields, link_fields, in_order, data_octets, is_full, values_good, tag_at, next_code}
 use Rattle.image_read.specs.Claims.{PrefixRead}
-use Rattle.image_field.proofs.Checks.{octets_account, octets_link, octets_end}
 use Rattle.image_read.proofs.Reading.{few_accounts, few_links, head_refused, head_passed, by_reading}
 
 -- no field's data are longer than a link's
 small_data : (tag : ℕ) → data_octets tag ≤ link_octets
+unfolding data_octets
 small_data tag =
     split (eqb tag account_tag)
-    (λ e. let h : account_octets ≡ data_octets tag = octets_account tag (eqb-true _ _ e) in omega arith)
-    (λ e.
-    split (eqb tag link_tag)
-    (λ f. let h : link_octets ≡ data_octets tag = octets_link tag (eqb-false _ _ e) (eqb-true _ _ f) in omega arith)
-    (λ f. let h : 0 ≡ data_octets tag = octets_end tag (eqb-false _ _ e) (eqb-false _ _ f) in omega arith))
+    (λ e. simp e (omega arith))
+    (λ e. split (eqb tag link_tag) (λ f. simp (e, f) (omega arith)) (λ f. simp (e, f) (omega arith)))
 
 -- the prefix, as a sum of sizes
 abbrev prefix : ℕ

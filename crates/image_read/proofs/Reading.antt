@@ -1,19 +1,31 @@
 -- Laws of what reading and loading answer, case by case as the code makes the checks. Assumes nothing.
 use Prim.Native.Nat.{ℕ, ◌≤◌, ◌<◌}
 use mathlib.Core.List.{List}
-use mathlib.Core.Path.{◌≡◌, sym, ap, ap₂, ◌∙◌}
+use mathlib.Core.Path.{◌≡◌, sym, ap, ◌∙◌}
 use native.Mathlib.Omega.{arith}
 use lib.Dec.{ltb, eqb}
 use lib.ListN.{length}
 use borrow.Author.Tests.{le-ltb, ltb-true, ltb-false, eq-eqb, ne_eqb, eqb-true, eqb-false}
+use Rattle.codes.specs.Refused.{fault_number}
+use Rattle.codes.specs.declared.Fault.{Fault}
+use Rattle.codes.specs.declared.Fault.TheVariants.{Cut, WrongTag, WrongLength, BadValue, BadCount, Surplus, NoRoom}
 use Rattle.tables.specs.Rows.{settings_of}
 use Rattle.octets.specs.Numbers.{number_at}
 use Rattle.lists.proofs.Tests.{split}
 use Rattle.lists.proofs.Leading.{leading_high}
 use Rattle.image_layout.specs.Layout.{account_tag, link_tag, field_offset, data_offset, image_length, max_accounts, max_links}
-use Rattle.image_read.specs.Read.{good_field, good_accounts, good_links, image_refused, read_end, read_image}
+use Rattle.image_read.specs.Read.{ImageAnswer, good_field, good_accounts, good_links, image_refused, read_end, read_image}
 use Rattle.image_field.specs.Checks.{head_code, next_code}
-use Rattle.image_read.specs.declared.ImageAnswer.{ImageAnswer}
+
+-- no fault has the number of success
+pub no_fault : (f : Fault) → fault_number f ≡ 0 → ⊥
+no_fault Cut e = omega arith
+no_fault WrongTag e = omega arith
+no_fault WrongLength e = omega arith
+no_fault BadValue e = omega arith
+no_fault BadCount e = omega arith
+no_fault Surplus e = omega arith
+no_fault NoRoom e = omega arith
 
 -- ---- counts are within the limits
 pub few_accounts : (s : List ℕ) → good_accounts s ≤ max_accounts
@@ -26,10 +38,6 @@ few_links s n = leading_high (λ j. good_field s link_tag n j) max_links
 
 -- ---- the answer at the last field
 module _ (s : List ℕ) (n m : ℕ) (code : ℕ) (e : code ≡ next_code s n m) where
-  pub end_refused : (code ≡ 0 → ⊥) → (at : ℕ) (q : ImageAnswer) → at ≡ field_offset n m → q ≡ image_refused code at → q ≡ read_end s n m
-  unfolding read_end
-  end_refused d at q p v = v ∙ ap₂ image_refused e p ∙ simp (ne_eqb _ _ (λ z. d (e ∙ z)))
-
   pub end_accepted : code ≡ 0 → (end : ℕ) → end ≡ data_offset n m → length s ≤ end → (k : ℕ) → k ≡ number_at 4 s 4
       → ◌≡◌ {A = ImageAnswer} (record { code = 0; offset = length s; settings = settings_of k n m }) (read_end s n m)
   unfolding read_end

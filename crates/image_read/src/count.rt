@@ -1,22 +1,19 @@
 // The counts of accounts and links in an image, and what reading the image answers.
-ghost use Rattle.std.specs.Prelude.{◌≡◌};
-ghost use Rattle.image_read.specs.Read.{good_accounts, good_links, read_end};
+ghost use Rattle.std.specs.Prelude.{◌≡◌, length};
+ghost use Rattle.image_read.specs.Read.{answered, good_accounts, good_links, read_end};
 
-use super::{ImageAnswer, field, refused};
+use super::{ImageError, field};
+use codes::Fault;
 use tables::Settings;
 
 // The number of good accounts after the head, up to the first field that is no account or is refused.
 pub(crate) fn count_accounts(image: &[u8]) -> u16
     ensures { result ≡ good_accounts image.now }
 {
-    let mut i: u16 = 0;
-    while i < image_layout::MAX_ACCOUNTS {
-        if !field::good_account(image, i) {
-            return i;
-        }
-        i += 1;
-    }
-    i
+    lists::first_failing(
+        image_layout::MAX_ACCOUNTS,
+        |i| field::good_account(image, i),
+    )
 }
 
 // The number of good links after the accounts, up to the first field that is no link or is refused; 0 without accounts.
@@ -26,36 +23,32 @@ pub(crate) fn count_links(image: &[u8], accounts: u16) -> u16
     if accounts == 0 {
         return 0;
     }
-    let mut j: u16 = 0;
-    while j < image_layout::MAX_LINKS {
-        if !field::good_link(image, accounts, j) {
-            return j;
-        }
-        j += 1;
-    }
-    j
+    lists::first_failing(
+        image_layout::MAX_LINKS,
+        |j| field::good_link(image, accounts, j),
+    )
 }
 
-// The answer at the field after so many accounts and links, which ends the reading: the field's code, 25, or success.
-pub(crate) fn read_end(image: &[u8], accounts: u16, links: u16) -> ImageAnswer
-    ensures { result ≡ read_end image.now accounts links }
+// The settings that the image names, if the field after so many accounts and links is a good end and the image ends with
+// it.
+#[tactic(auto, unfolding(crate::specs::Read::read_end))]
+pub(crate) fn read_end(image: &[u8], accounts: u16, links: u16) -> Result<Settings, ImageError>
+    ensures { answered (length image.now) result ≡ read_end image.now accounts links }
 {
-    let code = image_field::next_code(image, accounts, links);
-    if code != codes::SUCCESS {
-        return refused(code, image_layout::field_offset(accounts, links));
-    }
+    image_field::check_next(image, accounts, links).map_err(|fault| ImageError {
+        fault,
+        offset: image_layout::field_offset(accounts, links),
+    })?;
     let end = image_layout::data_offset(accounts, links);
     if end < image.len() {
-        return refused(codes::SURPLUS, end);
+        return Err(ImageError {
+            fault: Fault::Surplus,
+            offset: end,
+        });
     }
-    let settings = Settings {
-        constant: octets::u32_at(image, image_layout::CONSTANT_OFFSET),
+    Ok(Settings {
+        constant: octets::number_at(image, image_layout::CONSTANT_OFFSET),
         accounts: accounts as usize,
         links: links as usize,
-    };
-    ImageAnswer {
-        code: codes::SUCCESS,
-        offset: image.len(),
-        settings,
-    }
+    })
 }

@@ -6,6 +6,9 @@ ghost use Rattle.tables_rules.specs.Rules.{number_rises};
 ghost use Rattle.image_read.specs.Read.{good_field};
 ghost use Rattle.image_field.specs.Checks.{account_fields, link_fields};
 
+use tables::{Link, Row};
+use terms::Terms;
+
 // The lengths of an account's data and of a link's data, as a field names a length.
 const ACCOUNT_LENGTH: u16 = tables::ACCOUNT_OCTETS as u16;
 
@@ -22,10 +25,11 @@ pub(crate) fn good_account(image: &[u8], i: u16) -> bool
         return false;
     }
     let row = at + fields::TAG_AND_LENGTH;
-    tables::terms_at(&image[row..row + tables::ACCOUNT_OCTETS], 0).are_good()
+    Terms::of_octets(&image[row..row + tables::ACCOUNT_OCTETS]).are_good()
 }
 
 // Whether the number of link j is above that of the link before it; true for the first link.
+#[tactic(auto, using(tables_rules::proofs::Rules::rises_first, crate::proofs::Values::rises_above))]
 fn number_rises(image: &[u8], accounts: u16, j: u16, number: u16) -> bool
     requires { number ≡ (link_in (link_fields image.now accounts) j).number }
     ensures { result ≡ number_rises (link_fields image.now accounts) j }
@@ -33,14 +37,15 @@ fn number_rises(image: &[u8], accounts: u16, j: u16, number: u16) -> bool
     if j == 0 {
         return true;
     }
-    octets::u16_at(image, image_layout::data_offset(accounts, j - 1)) < number
+    octets::number_at::<u16>(image, image_layout::data_offset(accounts, j - 1)) < number
 }
 
 // Smax of an account of the image.
+#[tactic(auto, using(crate::proofs::Values::account_smax))]
 fn smax_of(image: &[u8], account: u16) -> u16
     ensures { result ≡ (account_in (account_fields image.now) account).smax }
 {
-    octets::u16_at(image, image_layout::data_offset(account, 0))
+    octets::number_at(image, image_layout::data_offset(account, 0))
 }
 
 // Whether the field after so many accounts and j links is a link that passes every check.
@@ -54,7 +59,7 @@ pub(crate) fn good_link(image: &[u8], accounts: u16, j: u16) -> bool
         return false;
     }
     let row = at + fields::TAG_AND_LENGTH;
-    let link = tables::link_at(&image[row..row + tables::LINK_OCTETS], 0);
+    let link = Link::of_octets(&image[row..row + tables::LINK_OCTETS]);
     if !number_rises(image, accounts, j, link.number) {
         return false;
     }

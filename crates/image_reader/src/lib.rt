@@ -1,11 +1,14 @@
 // A reader: an image and a place in the image.
 #![tactic(auto)]
 
-ghost use Rattle.std.specs.Prelude.{◌≡◌};
+ghost use Rattle.std.specs.Prelude.{◌≡◌, length};
+ghost use Rattle.image_read.specs.Read.{answered};
+ghost use Rattle.image_fill.specs.Lent.{runs_in, SameRuns};
 ghost use Rattle.image_load.specs.Loading.{loading_of, loading};
-ghost use Rattle.image_fill.specs.Filling.{runs_of};
 
-use image_read::ImageAnswer;
+use image_fill::LentRuns;
+use image_read::ImageError;
+use tables::Settings;
 
 #[derive(Clone, Copy)]
 pub struct Reader<'a> {
@@ -13,34 +16,34 @@ pub struct Reader<'a> {
     pub at: usize,
 }
 
-// A reader at the start of an image.
-pub fn new<'a>(image: &'a [u8]) -> Reader<'a>
-    ensures { (result.image ≡ image.entry) × (result.at ≡ 0) }
-{
-    Reader { image, at: 0 }
-}
+impl<'a> Reader<'a> {
+    // A reader at the start of an image.
+    pub fn new(image: &'a [u8]) -> Reader<'a>
+        ensures { (result.image ≡ image.entry) × (result.at ≡ 0) }
+    {
+        Reader { image, at: 0 }
+    }
 
-// The reader's place.
-pub fn at<'a>(r: Reader<'a>) -> usize
-    ensures { result ≡ r.entry.at }
-{
-    r.at
-}
+    // The reader's place.
+    pub fn at(self) -> usize
+        ensures { result ≡ self.entry.at }
+    {
+        self.at
+    }
 
-// Loads the whole image from its first octet, whatever the reader's place; the place is then the offset answered.
-pub fn load<'s, 'a>(
-    r: &'s mut Reader<'a>,
-    accounts: &mut [u8],
-    credits: &mut [u32],
-    lasts: &mut [u64],
-    links: &mut [u8],
-) -> ImageAnswer
-    ensures loaded { loading_of result (runs_of accounts.new credits.new lasts.new links.new)
-        ≡ loading r.old.image.now
-        (runs_of accounts.old credits.old lasts.old links.old) }
-    ensures reader { (r.new.image ≡ r.old.image) × (r.new.at ≡ result.offset) }
-{
-    let answer = image_load::load(r.image, accounts, credits, lasts, links);
-    r.at = answer.offset;
-    answer
+    // Loads the whole image from its first octet, whatever the reader's place; the place is then the offset answered.
+    pub fn load(&mut self, runs: &mut LentRuns) -> Result<Settings, ImageError>
+        ensures loaded { loading_of (answered (length self.old.image.now) result) (runs_in runs.new)
+            ≡ loading self.old.image.now (runs_in runs.old) }
+        ensures same_runs { SameRuns runs.old runs.new }
+        ensures reader { (self.new.image ≡ self.old.image)
+            × (self.new.at ≡ (answered (length self.old.image.now) result).offset) }
+    {
+        let answer = image_load::load(self.image, runs);
+        self.at = match answer {
+            Ok(_) => self.image.len(),
+            Err(error) => error.offset,
+        };
+        answer
+    }
 }

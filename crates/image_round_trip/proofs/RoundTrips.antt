@@ -22,22 +22,20 @@ use Rattle.tables.proofs.Rows.{terms_part, link_part}
 use Rattle.tables_rules.proofs.Rules.{account_good_same, link_good_same}
 use Rattle.fields.specs.Fields.{tag_and_length, field_of, stands_at}
 use Rattle.image_layout.specs.Layout.{head_tag, account_tag, link_tag, end_tag, edition, head_octets, head_size, account_size, link_size, field_offset, data_offset, image_length, max_accounts, max_links, constant_good, image_of}
-use Rattle.image_read.specs.Read.{good_field, read_image}
+use Rattle.image_read.specs.Read.{ImageAnswer, good_field, read_image}
 use Rattle.image_field.specs.Checks.{head_code, account_fields, link_fields, data_octets, tag_at, next_code}
-use Rattle.image_load.specs.Loading.{loading_of, runs_hold, loading}
-use Rattle.image_fill.specs.Filling.{Runs, runs_of, account_rows, link_rows, capacities, filled}
+use Rattle.image_load.specs.Loading.{loading_of, loading}
+use Rattle.image_fill.specs.Filling.{runs_hold, Runs, runs_of, account_rows, link_rows, capacities, filled}
 use Rattle.image_load.specs.Fresh.{Fresh, HoldsImage}
-use Rattle.image_read.specs.declared.ImageAnswer.{ImageAnswer}
 use Rattle.image_layout.proofs.Offsets.{account_offset, link_offset}
 use Rattle.image_read.proofs.Reading.{few_read}
 use Rattle.image_read.proofs.Accepted.{Accepted, accepted, head_passes, good_tag, good_by, good_passes, good_account, good_link, counted_account, counted_link, some_accounts, some_links, end_tag_lem}
 use Rattle.image_read.proofs.Passing.{head_good_by, head_good_constant, head_good_edition, head_code_by, account_passes, link_passes, end_passes, reads_as}
 use Rattle.image_load.proofs.Loading.{by_load}
 use Rattle.image_load.proofs.Fresh.{begins_put, rows_at, load_fresh, fresh_holds, held_long}
-use Rattle.image_write.specs.Writing.{counts_good, count_good, bad_account, bad_link, value_answer, written_of, write_answer, writing_of, writing}
+use Rattle.image_write.specs.Writing.{Written, counts_good, count_good, bad_account, bad_link, value_answer, written_of, write_answer, writing_of, writing}
 use Rattle.image_round_trip.specs.RoundTrips.{tables_in, AcceptedIsImage, ImageIsAccepted, written_image, read_back, WriteRead, loaded_tables, ReadWrite}
-use Rattle.image_write.specs.declared.Written.{Written}
-use Rattle.image_write.proofs.Answers.{writing_answer, accounts_counted, links_counted, by_values, by_writing, all_good, room_enough, writing_done}
+use Rattle.image_write.proofs.Writing.{writing_answer, accounts_counted, links_counted, by_values, by_writing, all_good, room_enough, writing_done}
 use Rattle.fields.proofs.Fields.{stands_by, tag_read, length_read, data_read, field_spelled}
 use Rattle.image_round_trip.proofs.Imaged.{image_head, image_account, image_link_lem, image_end, image_spelled}
 use Rattle.image_octets.proofs.Written.{row_field, length_head, length_image}

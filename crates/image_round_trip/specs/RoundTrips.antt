@@ -5,8 +5,8 @@ use Rattle.octets.specs.Runs.{put}
 use Rattle.tables.specs.Rows.{Config, account_octets, link_octets, account_table, config_for, settings_of}
 use Rattle.image_layout.specs.Layout.{image_of}
 use Rattle.image_read.specs.Read.{read_image}
-use Rattle.image_load.specs.Loading.{Loading, loading_of, long_enough, loading}
-use Rattle.image_fill.specs.Filling.{Runs, runs_of, account_rows, link_rows, capacities}
+use Rattle.image_load.specs.Loading.{Loading, loading_of, loading}
+use Rattle.image_fill.specs.Filling.{Runs, runs_of, long_enough, account_rows, link_rows, capacities}
 use Rattle.image_write.specs.Writing.{counts_good, value_answer, written_of, writing_of, writing}
 
 -- ---- the octets that are accepted are the images of good tables, and no others

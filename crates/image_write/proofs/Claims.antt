@@ -19,7 +19,7 @@ use Rattle.lists.proofs.Leading.{leading_is}
 use Rattle.image_layout.specs.Layout.{field_offset, image_length, image_of}
 use Rattle.image_write.specs.Writing.{count_good, counts_good, bad_account, bad_link, written_of, value_answer, write_answer, Writing, writing_of, writing}
 use Rattle.image_write.specs.Claims.{CountsExactly, WriteRefuses, WriteAccepts, FirstBadConstant, FirstBadAccount, FirstBadLink, WriteCodes, RefusedWriteKeeps, WriteOffsets, WritesImage, ImageLength}
-use Rattle.image_write.proofs.Answers.{writing_answer, counts_bad, room_short, room_enough, constant_bad, account_bad, link_bad, value_bad, by_values, by_writing, writing_refused}
+use Rattle.image_write.proofs.Writing.{writing_answer, counts_bad, room_short, room_enough, constant_bad, account_bad, link_bad, value_bad, by_values, by_writing, writing_refused}
 use Rattle.image_octets.proofs.Written.{length_image}
 
 -- case analysis of what writing answers and leaves

@@ -1,13 +1,14 @@
 -- What writing an image answers and leaves in the lent room (document 01, "The configuration image", the writer).
-use Rattle.std.specs.Prelude.{ℕ, ◌*◌, Bool, not, ◌&&◌, List, length, ltb, leb, eqb}
+use Rattle.std.specs.Prelude.{ℕ, ◌*◌, Bool, not, ◌&&◌, List, length, ltb, leb, eqb, Result, Ok, Err}
 use Rattle.codes.specs.Codes
+use Rattle.codes.specs.Refused.{fault_number}
 use Rattle.std.specs.Prelude.{if◌then◌else◌}
 use Rattle.octets.specs.Runs.{put}
 use Rattle.lists.specs.Leading.{leading}
 use Rattle.tables.specs.Rows.{Config, account_octets, link_octets, account_table, link_table}
 use Rattle.tables_rules.specs.Rules.{account_good, link_good}
 use Rattle.image_layout.specs.Layout.{max_accounts, max_links, field_offset, image_length, constant_good, image_of}
-use Rattle.image_write.specs.declared.Written.{Written}
+use Rattle.image_read.specs.declared.ImageError.{ImageError}
 
 -- whether a count is from 1 to its limit, with so many rows of w octets lent
 unfoldable pub count_good : ℕ → ℕ → ℕ → ℕ → Bool
@@ -23,8 +24,18 @@ bad_account g = leading (account_good (account_table g.accounts)) g.count_of_acc
 unfoldable pub bad_link : Config → ℕ
 bad_link g = leading (link_good (account_table g.accounts) (link_table g.links) g.count_of_accounts) g.count_of_links
 
+-- what writing answers: the code, and the length of the image or the offset that a bad field would have had
+pub record Written : Type 0 where
+  pub code : ℕ
+  pub offset : ℕ
+
 abbrev pub written_of : ℕ → ℕ → Written
 written_of code offset = record { code = code; offset = offset }
+
+-- the answer that a result of the code stands for
+abbrev pub written_by : Result ℕ ImageError → Written
+written_by (Ok size) = written_of Codes.success size
+written_by (Err e) = written_of (fault_number e.fault) e.offset
 
 -- the answer by the values: 23 with the offset that the first bad field would have, the constant field's first; else 0
 -- with the length of the image

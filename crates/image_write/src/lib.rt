@@ -1,114 +1,73 @@
 // Writing a configuration image from a constant field and the first rows of two tables.
 #![tactic(auto)]
 
-ghost use Rattle.std.specs.Prelude.{◌≡◌};
-ghost use Rattle.tables.specs.Rows.{config_of};
-ghost use Rattle.image_write.specs.Writing.{count_good, counts_good, write_answer, writing_of, writing};
+ghost use Rattle.std.specs.Prelude.{◌≡◌, length};
+ghost use Rattle.tables.specs.Lent.{config_in};
+ghost use Rattle.image_write.specs.Writing.{count_good, counts_good, written_by, writing_of, writing};
 
 mod values;
 
-// What writing answers: the code, and the length of the image or the offset that a bad field would have had.
-#[derive(Clone, Copy)]
-pub struct Written {
-    pub code: u8,
-    pub offset: usize,
-}
+use codes::Fault;
+use image_read::ImageError;
+use tables::LentTables;
 
-// Whether a count is from 1 to its limit and so many rows of `size` octets are lent. The product is taken only below the
-// limit.
+// Whether a count is from 1 to its limit and so many rows of `size` octets are lent.
+#[tactic(auto, unfolding(crate::specs::Writing::count_good))]
 fn count_good(n: usize, limit: u16, size: u8, lent: usize) -> bool
     ensures { result ≡ count_good n limit size lent }
 {
-    if n < 1 {
-        return false;
-    }
-    if (limit as usize) < n {
-        return false;
-    }
-    size as usize * n <= lent
+    1 <= n && n <= limit as usize && size as usize * n <= lent
 }
 
 // Whether both counts are good.
-fn counts_good(accounts: &[u8], n: usize, links: &[u8], m: usize) -> bool
-    ensures { result ≡ counts_good accounts.now n links.now m }
+#[tactic(auto, unfolding(crate::specs::Writing::counts_good))]
+fn counts_good(source: LentTables) -> bool
+    ensures { result
+        ≡ counts_good
+        source.entry.accounts.now
+        source.entry.settings.accounts
+        source.entry.links.now
+        source.entry.settings.links }
 {
-    if !count_good(
-        n,
+    let LentTables {
+        settings,
+        accounts,
+        links,
+    } = source;
+    count_good(
+        settings.accounts,
         image_layout::MAX_ACCOUNTS,
         tables::ACCOUNT_OCTETS as u8,
         accounts.len(),
-    ) {
-        return false;
-    }
-    count_good(
-        m,
+    ) && count_good(
+        settings.links,
         image_layout::MAX_LINKS,
         tables::LINK_OCTETS as u8,
         links.len(),
     )
 }
 
-// What writing answers, from the rows, the counts and the length of the room.
-fn write_answer(
-    constant: u32,
-    accounts: &[u8],
-    n: usize,
-    links: &[u8],
-    m: usize,
-    room: usize,
-) -> Written
-    ensures { result ≡ write_answer (config_of constant accounts.now n links.now m) room }
+// Writes the image of the first rows of two tables and returns its length. After an error the room is unchanged;
+// otherwise the octets after the image are.
+#[tactic(auto, using(crate::proofs::Writing::write_bad_count, crate::proofs::Writing::write_bad_value))]
+pub fn write(source: LentTables, room: &mut [u8]) -> Result<usize, ImageError>
+    ensures { writing_of (written_by result) room.new ≡ writing (config_in source.entry) room.old }
 {
-    if !counts_good(accounts, n, links, m) {
-        return Written {
-            code: codes::BAD_COUNT,
+    if !counts_good(source) {
+        return Err(ImageError {
+            fault: Fault::BadCount,
             offset: 0,
-        };
+        });
     }
-    let answer = values::value_answer(constant, accounts, n as u16, links, m as u16);
-    if answer.code != codes::SUCCESS {
-        return answer;
-    }
-    if room < image_layout::data_offset(n as u16, m as u16) {
-        return Written {
-            code: codes::NO_ROOM,
+    let n = source.settings.accounts as u16;
+    let m = source.settings.links as u16;
+    let size = values::image_size(source, n, m)?;
+    if room.len() < size {
+        return Err(ImageError {
+            fault: Fault::NoRoom,
             offset: 0,
-        };
+        });
     }
-    answer
-}
-
-// Writes the image of the first rows of two tables. After any code but 0 the room is unchanged; after 0 the octets
-// after the image are.
-pub fn write(
-    constant: u32,
-    accounts: &[u8],
-    account_count: usize,
-    links: &[u8],
-    link_count: usize,
-    room: &mut [u8],
-) -> Written
-    ensures { writing_of result room.new
-        ≡ writing (config_of constant accounts.now account_count links.now link_count) room.old }
-{
-    let answer = write_answer(
-        constant,
-        accounts,
-        account_count,
-        links,
-        link_count,
-        room.len(),
-    );
-    if answer.code != codes::SUCCESS {
-        return answer;
-    }
-    image_octets::put_image(
-        constant,
-        accounts,
-        account_count as u16,
-        links,
-        link_count as u16,
-        room,
-    );
-    answer
+    image_octets::put_image(source, n, m, room);
+    Ok(size)
 }

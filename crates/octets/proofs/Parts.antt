@@ -1,13 +1,14 @@
 -- Laws of parts of a run, and of runs one after the other. Assumes nothing.
-use Prim.Native.Nat.{ℕ, zero, suc, ◌+◌, ◌*◌, ◌/◌, ◌%◌, ◌≤◌, ◌<◌, min}
+use Prim.Native.Nat.{ℕ, zero, suc, ◌+◌, ◌-◌, ◌*◌, ◌/◌, ◌%◌, ◌≤◌, ◌<◌, min}
 use mathlib.Core.Path.{◌≡◌, refl, sym, ap, ap₂, ◌∙◌}
 use mathlib.Core.List.{List, [], ◌∷◌, ◌++◌, append_assoc, append-nil}
 use native.Mathlib.Omega.{arith}
-use native.Mathlib.Nat.{add-zero, zero-add, add-suc, add_assoc, mul-zero, mul-suc, mul-le-mul_left, min-eq_left, min-eq_right, mul-add-div_right, mul-add-mod_self_right, div-eq_of_lt, mod-eq_of_lt}
+use native.Mathlib.Nat.{add-zero, zero-add, add-suc, add_assoc, le_refl, mul-zero, mul-suc, mul-le-mul_left, min-eq_left, min-eq_right, min-le_right, mul-add-div_right, mul-add-mod_self_right, div-eq_of_lt, mod-eq_of_lt}
 use lib.Dec.{leb}
-use lib.ListN.{length, get_or, take, drop, length-append, length-drop, get_or-append, get_or-eq_default}
+use lib.ListN.{length, get_or, take, drop, replicate, length-append, length-drop, length-replicate, get_or-append, get_or-eq_default}
 use lib.Seq.{length-take-le, get_or_at, get_or-append-add, get_or-take, get_or-drop, ext_get_or}
 use borrow.Author.Tests.{leb-true, leb-false}
+use Rattle.std.proofs.lemmas.List.{get_or-replicate, take_rest}
 use Rattle.octets.specs.Numbers.{number_at, octets_of}
 use Rattle.octets.specs.Runs.{octets_at, joined}
 use Rattle.octets.proofs.Numbers.{number_shift}
@@ -36,6 +37,48 @@ pub number_within : (w n at : ℕ) (s : List ℕ) → w ≤ n → number_at w (t
 number_within w n at s h =
     number_shift w (take n (drop at s)) s 0 at
     (λ k l. ap (λ (i : ℕ). get_or (take n (drop at s)) i 0) (zero-add k) ∙ get_d_within n at s k (omega arith))
+
+-- a number in the octets from an offset on, which is cut to the end
+pub number_from : (w : ℕ) (s : List ℕ) (at : ℕ) {start : ℕ} → start ≡ min at (length s) → number_at w (drop start s) 0 ≡ number_at w s at
+number_from w s at {start} e =
+    number_shift w (drop start s) s 0 at
+    (λ k l. get_d_from s at k e (ap (λ (i : ℕ). get_or (drop start s) i 0) (zero-add k) ∙ get_or-drop start s k 0))
+
+-- ---- zeros after the last octets of a run
+pub zeros : (n m i : ℕ) → get_or (drop m (replicate {A = ℕ} n 0)) i 0 ≡ 0
+zeros n m i =
+    get_or-drop m (replicate {A = ℕ} n 0) i 0
+    ∙ split (leb n (m + i))
+    (λ e. let h = leb-true _ _ e in get_or-eq_default (replicate {A = ℕ} n 0) 0 (simp length-replicate h))
+    (λ e. get_or-replicate n (m + i) 0 0 (leb-false _ _ e))
+
+-- octets from an offset on that is cut to the end, with zeros zs after them: n octets or all that are there
+module _ (s : List ℕ) (at : ℕ) {start : ℕ} (e : start ≡ min at (length s)) (zs : List ℕ) (z : (i : ℕ) → get_or zs i 0 ≡ 0) where
+  pub get_d_padded : (n k : ℕ) → start + n ≤ length s → (n ≤ k → length s ≤ start + k)
+      → get_or (take n (drop start s) ++ zs) k 0 ≡ get_or s (at + k) 0
+  get_d_padded n k h p =
+      let xs : List ℕ = take n (drop start s) in
+      let l : length xs ≡ n = length-take-le n (drop start s) (simp length-drop (omega arith)) in
+      get_d_from s at k e
+      (split (leb n k)
+      (λ t.
+      let q : n ≤ k = leb-true _ _ t in
+      let j : length xs + (k - n) ≡ k = omega arith in
+      ap (λ (i : ℕ). get_or (xs ++ zs) i 0) (sym j) ∙ get_or-append-add xs zs (k - n) 0 ∙ z (k - n)
+      ∙ sym (get_or-eq_default s 0 {n = start + k} (p q)))
+      (λ t.
+      let q : k < n = leb-false _ _ t in
+      get_or-append xs zs 0 k (omega arith) ∙ get_d_within n start s k q))
+
+  -- a number of which at least an octet is past the end
+  pub number_padded : (w : ℕ) → length s < at + w → {v : ℕ} → v ≡ w → {xs : List ℕ} → xs ≡ take (length s - start) (drop start s)
+      → number_at w (take v (xs ++ zs)) 0 ≡ number_at w s at
+  number_padded w l {v} p {xs} q =
+      let ys : List ℕ = take (length s - start) (drop start s) ++ zs in
+      let m : start ≤ length s = rw e (min-le_right at (length s)) in
+      rw (p, q) (number_within w w 0 ys (le_refl w))
+      ∙ number_shift w ys s 0 at
+      (λ k b. ap (λ (i : ℕ). get_or ys i 0) (zero-add k) ∙ get_d_padded (length s - start) k (omega arith) (λ h. omega arith))
 
 -- ---- parts of a run
 pub length_part : (w : ℕ) (s : List ℕ) (at : ℕ) → length (octets_at w s at) ≡ w
@@ -86,10 +129,6 @@ part_none s at = refl
 pub part_whole : (s : List ℕ) → octets_at (length s) s 0 ≡ s
 part_whole s = part_is (length s) s 0 s refl (λ k l. ap (λ (i : ℕ). get_or s i 0) (zero-add k))
 
--- a part past the end
-pub part_clamped : (w : ℕ) (s : List ℕ) (at : ℕ) → octets_at w s (min at (length s)) ≡ octets_at w s at
-part_clamped w s at = part_same w s s (min at (length s)) at (λ k l. get_d_clamped s at k)
-
 -- a part of v + w octets
 pub part_join : (v w : ℕ) (s : List ℕ) (at : ℕ) → octets_at (v + w) s at ≡ octets_at v s at ++ octets_at w s (at + v)
 unfolding octets_at
@@ -121,6 +160,24 @@ octets_number (suc w) s at h =
 -- row i of n rows of w octets ends inside them
 pub row_below : (w i n : ℕ) → i < n → w * i + w ≤ w * n
 row_below w i n l = rw (← mul-suc w i) (mul-le-mul_left w l)
+
+-- a part of which some octets may be past the end: the f octets that are there, then zeros
+pub part_padded : (w : ℕ) (s : List ℕ) (at : ℕ) {start : ℕ} → start ≡ min at (length s)
+    → (f a : ℕ) → f ≡ min (length (take (length s - start) (drop start s))) w → a + f ≡ w
+    → {xs : List ℕ} → xs ≡ take f (take (length s - start) (drop start s)) → {zs : List ℕ} → zs ≡ replicate a 0
+    → xs ++ zs ≡ octets_at w s at
+part_padded w s at {start} e f a q v {xs} x {zs} z =
+    let d : length (drop start s) ≡ length s - start = length-drop start s in
+    let r : take (length s - start) (drop start s) ≡ drop start s = take_rest s start in
+    let g : f ≡ min (length s - start) w = q ∙ ap (λ (l : List ℕ). min (length l) w) r ∙ ap (λ (n : ℕ). min n w) d in
+    let m : start ≤ length s = rw e (min-le_right at (length s)) in
+    let o : start + f ≤ length s = omega arith in
+    let t : length (take f (drop start s)) ≡ f = length-take-le f (drop start s) (omega arith) in
+    let k : length (replicate {A = ℕ} a 0) ≡ a = length-replicate a 0 in
+    rw (x, z, r)
+    (sym (part_is w s at (take f (drop start s) ++ replicate a 0)
+    (length-append (take f (drop start s)) (replicate a 0) ∙ omega arith)
+    (λ j b. sym (get_d_padded s at e (replicate a 0) (zeros a 0) f j o (λ h. omega arith)))))
 
 -- ---- runs one after the other, each of w octets
 module _ (f : ℕ → List ℕ) (w : ℕ) (each : (i : ℕ) → length (f i) ≡ w) where

@@ -1,18 +1,17 @@
 -- Laws of runs written into a longer run. Assumes nothing.
-use Prim.Native.Nat.{ℕ, ◌+◌, ◌-◌, ◌/◌, ◌%◌, ◌^◌, ◌≤◌, ◌<◌}
+use Prim.Native.Nat.{ℕ, ◌+◌, ◌-◌, ◌≤◌, ◌<◌}
 use mathlib.Core.Path.{◌≡◌, sym, ap, ◌∙◌}
 use mathlib.Core.Bool.{Bool, false}
 use mathlib.Core.List.{List, [], ◌∷◌, ◌++◌, append_assoc, append-nil}
 use native.Mathlib.Omega.{arith}
-use native.Mathlib.Nat.{add-zero, add_assoc, mod-eq_of_lt, div-lt_iff_lt-mul}
-use native.Mathlib.Numerals.{add-one}
+use native.Mathlib.Nat.{add-zero, zero-add, add_assoc}
 use lib.Dec.{leb}
 use lib.ListN.{length, get_or, take, drop, set, length-append, length-drop, take-append-drop, get_or-append}
-use lib.Seq.{length-take-le, take_at, drop-append-add, drop-drop, get_or-append-add, get_or-take, get_or-drop, sets-eq, take-add}
+use lib.Seq.{length-take-le, take_at, drop-append-add, drop-drop, get_or-append-add, get_or-drop, sets-eq, take-add}
+use borrow.Rule.Slice.PartMut.{put_mid}
 use borrow.Author.Tests.{leb-true, leb-false, le-leb, lt-leb}
-use Rattle.octets.specs.Numbers.{octets_of}
+use Rattle.std.proofs.lemmas.List.{drop_all}
 use Rattle.octets.specs.Runs.{octets_at, put}
-use Rattle.octets.proofs.Numbers.{length_octets, octets_join, octets_low}
 use Rattle.octets.proofs.Parts.{length_part, part_take}
 use Rattle.lists.proofs.Tests.{split}
 use Rattle.octets.proofs.Tests.{fits_not}
@@ -21,6 +20,17 @@ use Rattle.octets.proofs.Tests.{fits_not}
 pub put_fits : (d : List ℕ) (at : ℕ) (xs : List ℕ) → at + length xs ≤ length d → put d at xs ≡ take at d ++ xs ++ drop (at + length xs) d
 unfolding put
 put_fits d at xs h = simp (le-leb _ _ h)
+
+-- writing at the front
+pub put_start : (d xs : List ℕ) → length xs ≤ length d → xs ++ drop (length xs) d ≡ put d 0 xs
+put_start d xs h = sym (put_fits d 0 xs (omega (arith, h)) ∙ ap (λ (n : ℕ). xs ++ drop n d) (zero-add (length xs)))
+
+-- writing a whole run over
+pub put_all : (d xs : List ℕ) → length xs ≡ length d → put d 0 xs ≡ xs
+put_all d xs e =
+    sym (put_start d xs (omega (arith, e)))
+    ∙ ap (λ (ys : List ℕ). xs ++ ys) (drop_all (length xs) d (omega (arith, e)))
+    ∙ append-nil xs
 
 module _ (d : List ℕ) (at : ℕ) (xs : List ℕ) where
   pub put_no_room : length d < at + length xs → put d at xs ≡ d
@@ -47,19 +57,7 @@ module _ (d : List ℕ) (at : ℕ) (xs : List ℕ) where
       ∙ ap (λ (a : ℕ). get_or (take at d ++ xs) (a + k) 0) (sym e)
       ∙ get_or-append-add (take at d) xs k 0
 
-  -- the elements before and after a written run are unchanged
-  pub get_d_put_before : (k : ℕ) → k < at → get_or (put d at xs) k 0 ≡ get_or d k 0
-  get_d_put_before k l =
-      split (leb (at + length xs) (length d))
-      (λ e.
-      let h = leb-true _ _ e in
-      let a : length (take at d) ≡ at = length-take-le at d (omega arith) in
-      ap (λ (r : List ℕ). get_or r k 0) (put_fits d at xs h)
-      ∙ get_or-append (take at d ++ xs) (drop (at + length xs) d) 0 k (omega (arith, length_front h))
-      ∙ get_or-append (take at d) xs 0 k (omega arith)
-      ∙ get_or-take at d k 0 l)
-      (λ e. ap (λ (r : List ℕ). get_or r k 0) (put_no_room (leb-false _ _ e)))
-
+  -- the elements after a written run are unchanged
   pub get_d_put_after : (k : ℕ) → at + length xs ≤ k → get_or (put d at xs) k 0 ≡ get_or d k 0
   get_d_put_after k l =
       split (leb (at + length xs) (length d))
@@ -86,28 +84,6 @@ module _ (d : List ℕ) (at : ℕ) (xs : List ℕ) where
       rw f (rw (length_front k) at (drop-append-add (take at d ++ xs) (drop (at + length xs) d) (length ys)) ∙ drop-drop (length ys) (at + length xs) d) in
       put_fits (put d at xs) (at + length xs) ys (rw length_put h)
       ∙ rw (a, b) (sym (put_fits d at (xs ++ ys) m ∙ simp (length-append, append_assoc, add_assoc)))
-
--- a number of two octets stored
-pub put_two : (d : List ℕ) (at x : ℕ) → x < 2 ^ 16 → at + 2 ≤ length d → set (set d at (x / 256)) (at + 1) (x % 256) ≡ put d at (octets_of 2 x)
-unfolding octets_of
-put_two d at x f h =
-    let q : x / 256 % 256 ≡ x / 256 = mod-eq_of_lt ((div-lt_iff_lt-mul {k = 256} {x = x} {y = 256} (omega arith)).1 f) in
-    ap (λ (high : ℕ). set (set d at high) (at + 1) (x % 256)) (sym q)
-    ∙ rw (add-one at) (sets-eq (x / 256 % 256 ∷ x % 256 ∷ []) d at h ∙ sym (put_fits d at (x / 256 % 256 ∷ x % 256 ∷ []) h))
-
--- a number's two halves written side by side
-pub put_halves : (w : ℕ) (d : List ℕ) (at x : ℕ) → at + (w + w) ≤ length d
-    → put (put d at (octets_of w (x / 256 ^ w))) (at + w) (octets_of w (x % 256 ^ w)) ≡ put d at (octets_of (w + w) x)
-put_halves w d at x h =
-    let l = length_octets w (x / 256 ^ w) in
-    let m = length_octets w x in
-    ap (λ (xs : List ℕ). put (put d at (octets_of w (x / 256 ^ w))) (at + w) xs) (octets_low w x)
-    ∙ (rw l at (put_beside d at (octets_of w (x / 256 ^ w)) (octets_of w x) (omega arith)))
-    ∙ ap (put d at) (sym (octets_join w w x))
-
-pub put_both : (w : ℕ) (d : List ℕ) (at x : ℕ) (e f : List ℕ) → at + (w + w) ≤ length d
-    → e ≡ put d at (octets_of w (x / 256 ^ w)) → f ≡ put e (at + w) (octets_of w (x % 256 ^ w)) → f ≡ put d at (octets_of (w + w) x)
-put_both w d at x e f h p q = q ∙ ap (λ (r : List ℕ). put r (at + w) (octets_of w (x % 256 ^ w))) p ∙ put_halves w d at x h
 
 -- where the test finds no room, nothing is written
 pub put_refused : (d : List ℕ) (at : ℕ) (xs : List ℕ) (r : Bool) (size : ℕ) → r ≡ leb (at + size) (length d) → length xs ≡ size → r ≡ false → d ≡ put d at xs
@@ -155,3 +131,17 @@ length_written d at xs e v = ap length v ∙ length_put d at xs
 pub put_after : (d : List ℕ) (at : ℕ) (xs ys : List ℕ) (p : ℕ) → p ≡ at + length xs → p + length ys ≤ length d → put (put d at xs) p ys ≡ put d at (xs ++ ys)
 put_after d at xs ys p e h =
     ap (λ (q : ℕ). put (put d at xs) q ys) e ∙ put_beside d at xs ys (rw e at h)
+
+-- ---- a part of `size` octets that is lent, and what a write to it leaves
+module _ (d : List ℕ) (at size : ℕ) (h : at + size ≤ length d) where
+  pub length_lent : length (take (at + size - at) (drop at d)) ≡ size
+  length_lent =
+      let e : at + size - at ≡ size = omega arith in
+      rw e (length-take-le size (drop at d) (simp length-drop (omega arith)))
+
+  pub put_lent : {xs ys : List ℕ} → ys ≡ xs → length xs ≡ size → put_mid at (at + size - at) d ys ≡ put d at xs
+  put_lent {xs} {ys} e l =
+      let k : at + size - at ≡ length xs = omega arith in
+      rw (k, e) (sym (append_assoc (take at d) xs (drop (length xs) (drop at d))))
+      ∙ ap (λ (r : List ℕ). take at d ++ xs ++ r) (drop-drop (length xs) at d)
+      ∙ sym (put_fits d at xs (omega arith))

@@ -1,21 +1,13 @@
 -- The test of room for octets in a run, and what the test says. Other tests are those of lists. Assumes nothing.
-use Prim.Native.Nat.{ℕ, ◌+◌, ◌-◌, ◌≤◌, ◌<◌}
+use Prim.Native.Nat.{ℕ, ◌+◌, ◌≤◌, ◌<◌}
 use mathlib.Core.Bool.{Bool, true, false}
 use mathlib.Core.Path.{◌≡◌, sym, ◌∙◌}
 use native.Mathlib.Nat.{zero-add}
-use native.Mathlib.Omega.{arith}
 use lib.Dec.{leb}
-use borrow.Author.Tests.{leb-true, leb-false, lt-leb}
-use Rattle.lists.proofs.Tests.{leb_same}
+use borrow.Author.Tests.{leb-true, leb-false}
 
 -- ---- the test of room for `size` octets at an offset in a run of `len`
 module _ (len at size : ℕ) where
-  pub room_none : len < size → false ≡ leb (at + size) len
-  room_none h = sym (lt-leb (at + size) len (omega arith))
-
-  pub room_left : size ≤ len → leb at (len - size) ≡ leb (at + size) len
-  room_left h = leb_same at (len - size) (at + size) len (λ x. omega arith) (λ x. omega arith)
-
   -- what the test's answer says
   module _ (r : Bool) (e : r ≡ leb (at + size) len) where
     pub fits : r ≡ true → at + size ≤ len

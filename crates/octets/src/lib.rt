@@ -1,96 +1,118 @@
-// Octets and the numbers that octets spell, the high octet first: numbers of 2, 4 and 8 octets read, the lesser of two
-// counts, and whether a run has room for another. Every function is total: an octet past the end reads as 0.
+// Octets and the numbers that octets spell, the high octet first: numbers of 2, 4 and 8 octets read and spelled, and
+// whether a run has room for another. Every function is total: an octet past the end reads as 0.
 #![tactic(auto)]
 
-ghost use Rattle.std.specs.Prelude.{◌≡◌, ◌+◌, ◌≤◌, ◌<◌, min, length, get_or, leb};
-ghost use Rattle.octets.specs.Numbers.{number_at};
+ghost use Rattle.std.specs.Prelude.{◌≡◌, ℕ, ◌+◌, get_or, leb};
+ghost use Rattle.octets.specs.Numbers.{number_at, octets_of};
+ghost use Rattle.octets.specs.Runs.{put};
 
-// The lesser of two counts.
-pub fn least(a: usize, b: usize) -> usize
-    ensures { result ≡ min a b }
+// A number that is spelled in octets, the high octet first: `u16`, `u32` and `u64`.
+pub trait Number: Copy {
+    // The octets that spell it.
+    const OCTETS: usize;
+
+    ghost OCTETS: { ℕ };
+
+    ghost value: { Self → ℕ };
+
+    // The number that the first octets spell; a missing octet counts as 0.
+    fn of_octets(octets: &[u8]) -> Self
+        ensures { value result ≡ number_at OCTETS octets.now 0 };
+
+    // Spells the number into the first octets; too few are left as they are.
+    fn spell(self, octets: &mut [u8])
+        ensures { octets.new ≡ put octets.old 0 (octets_of OCTETS (value self)) };
+}
+
+impl Number for u16 {
+    const OCTETS: usize = 2;
+
+    ghost OCTETS = { 2 };
+
+    ghost value = { λ number. number };
+
+    #[tactic(auto, unfolding(crate::specs::Numbers::number_at))]
+    fn of_octets(octets: &[u8]) -> u16 {
+        let at = |i| octet_at(octets, i);
+        u16::from_be_bytes([at(0), at(1)])
+    }
+
+    #[tactic(auto, using(crate::proofs::Numbers::octets_high))]
+    fn spell(self, octets: &mut [u8]) {
+        put_front(octets, &u16::to_be_bytes(self));
+    }
+}
+
+impl Number for u32 {
+    const OCTETS: usize = 4;
+
+    ghost OCTETS = { 4 };
+
+    ghost value = { λ number. number };
+
+    #[tactic(auto, unfolding(crate::specs::Numbers::number_at))]
+    fn of_octets(octets: &[u8]) -> u32 {
+        let at = |i| octet_at(octets, i);
+        u32::from_be_bytes([at(0), at(1), at(2), at(3)])
+    }
+
+    #[tactic(auto, using(crate::proofs::Numbers::octets_high))]
+    fn spell(self, octets: &mut [u8]) {
+        put_front(octets, &u32::to_be_bytes(self));
+    }
+}
+
+impl Number for u64 {
+    const OCTETS: usize = 8;
+
+    ghost OCTETS = { 8 };
+
+    ghost value = { λ number. number };
+
+    #[tactic(auto, unfolding(crate::specs::Numbers::number_at))]
+    fn of_octets(octets: &[u8]) -> u64 {
+        let at = |i| octet_at(octets, i);
+        u64::from_be_bytes([at(0), at(1), at(2), at(3), at(4), at(5), at(6), at(7)])
+    }
+
+    #[tactic(auto, using(crate::proofs::Numbers::octets_high))]
+    fn spell(self, octets: &mut [u8]) {
+        put_front(octets, &u64::to_be_bytes(self));
+    }
+}
+
+// Writes a run to the front of another, where it fits.
+#[tactic(auto, using(crate::proofs::Runs::put_start, crate::proofs::Runs::put_no_room))]
+fn put_front(to: &mut [u8], run: &[u8])
+    ensures { to.new ≡ put to.old 0 run.now }
 {
-    if a <= b { a } else { b }
+    if run.len() <= to.len() {
+        to[..run.len()].copy_from_slice(run);
+    }
 }
 
 // Whether `size` octets fit at an offset in a run of `len` octets.
 pub fn has_room(len: usize, at: usize, size: usize) -> bool
     ensures { result ≡ leb (at + size) len }
 {
-    if len < size {
-        return false;
-    }
-    at <= len - size
+    size <= len && at <= len - size
 }
 
 // The octet at an offset; 0 past the end.
 pub fn octet_at(s: &[u8], at: usize) -> u8
     ensures { result ≡ get_or s.now at 0 }
 {
-    if at < s.len() { s[at] } else { 0 }
+    s.get(at).copied().unwrap_or(0)
 }
 
-// An octet inside the run, and the numbers of two, four and eight octets inside the run, read with no test for each
-// octet.
-fn whole_octet(s: &[u8], at: usize) -> u8
-    requires { at < length s.now }
-    ensures { result ≡ get_or s.now at 0 }
+// The number that the octets from an offset on spell; a missing octet counts as 0.
+#[tactic(auto, using(crate::proofs::Parts::number_within))]
+pub fn number_at<N: Number>(s: &[u8], at: usize) -> N
+    ensures { N.value result ≡ number_at N.OCTETS s.now at }
 {
-    s[at]
-}
-
-fn whole_u16(s: &[u8], at: usize) -> u16
-    requires { at + 2 ≤ length s.now }
-    ensures { result ≡ number_at 2 s.now at }
-{
-    (whole_octet(s, at) as u16) * 256 + (whole_octet(s, at + 1) as u16)
-}
-
-fn whole_u32(s: &[u8], at: usize) -> u32
-    requires { at + 4 ≤ length s.now }
-    ensures { result ≡ number_at 4 s.now at }
-{
-    (whole_u16(s, at) as u32) * 65536 + (whole_u16(s, at + 2) as u32)
-}
-
-fn whole_u64(s: &[u8], at: usize) -> u64
-    requires { at + 8 ≤ length s.now }
-    ensures { result ≡ number_at 8 s.now at }
-{
-    (whole_u32(s, at) as u64) * 4294967296 + (whole_u32(s, at + 4) as u64)
-}
-
-// The number of the two octets from an offset on; read directly if complete, otherwise zero-padded.
-pub fn u16_at(s: &[u8], at: usize) -> u16
-    ensures { result ≡ number_at 2 s.now at }
-{
-    if has_room(s.len(), at, 2) {
-        return whole_u16(s, at);
+    let width = N::OCTETS;
+    if has_room(s.len(), at, width) {
+        return N::of_octets(&s[at..at + width]);
     }
-    (octet_at(s, at) as u16) * 256
-}
-
-// The number of the four octets from an offset on; read directly if complete, otherwise zero-padded.
-pub fn u32_at(s: &[u8], at: usize) -> u32
-    ensures { result ≡ number_at 4 s.now at }
-{
-    if has_room(s.len(), at, 4) {
-        return whole_u32(s, at);
-    }
-    if s.len() <= at {
-        return 0;
-    }
-    (u16_at(s, at) as u32) * 65536 + (u16_at(s, at + 2) as u32)
-}
-
-// The number of the eight octets from an offset on; read directly if complete, otherwise zero-padded.
-pub fn u64_at(s: &[u8], at: usize) -> u64
-    ensures { result ≡ number_at 8 s.now at }
-{
-    if has_room(s.len(), at, 8) {
-        return whole_u64(s, at);
-    }
-    if s.len() <= at {
-        return 0;
-    }
-    (u32_at(s, at) as u64) * 4294967296 + (u32_at(s, at + 4) as u64)
+    N::of_octets(&s[at.min(s.len())..])
 }

@@ -3,7 +3,7 @@ use Prim.Native.Nat.{ℕ, ◌+◌, ◌*◌, ◌≤◌, ◌<◌}
 use mathlib.Core.Bool.{false}
 use mathlib.Core.List.{List}
 use mathlib.Core.Logic.{◌⊎◌, inl, inr}
-use mathlib.Core.Option.{Option, some}
+use Rattle.std.specs.Prelude.{Option, Some, None}
 use mathlib.Core.Path.{◌≡◌, refl, sym, ap, ◌∙◌, subst}
 use native.Mathlib.Nat.{zero-add}
 use native.Mathlib.Omega.{arith}
@@ -13,7 +13,6 @@ use borrow.Author.Tests.{eqb-true, eqb-false}
 use Rattle.lists.proofs.Tests.{split}
 use Rattle.octets.specs.Numbers.{number_at}
 use Rattle.rows.specs.Rows.{table_of, row_number, found_in}
-use Rattle.rows.specs.declared.Found.TheVariants.{At, Nowhere}
 use Rattle.rows.proofs.Finding.{first_found, none_found, found_same}
 use Rattle.receive_sequence.specs.Sequence.{number_count}
 use Rattle.receive_answer.specs.declared.Arrival.{Arrival}
@@ -27,7 +26,7 @@ use Rattle.receive.proofs.Answering.{refused_leaves, call_at, call_nowhere, by_r
 use Rattle.receive_answer.proofs.Answer.{by_reception}
 use Rattle.receive_answer.proofs.Claims.{possible, answers_exactly, later_counts_as_none}
 use Rattle.receive.proofs.Stored.{stored_left, noted_time, noted_number, met_time, met_number, delivered_time, delivered_number}
-use Rattle.receive.proofs.Words.{number_inside, awaiting_inside, delivered_inside, memory_in_run, length_store, word_same, word_other, outside_before, outside_after}
+use Rattle.receive.proofs.Words.{number_inside, awaiting_inside, delivered_inside, length_store, word_same, word_other, outside_before, outside_after}
 
 pub possible_answers : PossibleAnswers
 possible_answers rows r f = possible (received rows r f).says
@@ -62,7 +61,7 @@ refused_keeps rows r f =
 
 pub unknown_exactly : UnknownExactly
 unknown_exactly rows r f = (
-  by_row rows r f (λ z. z.says ≡ UnknownLink → row_found rows (length r) f.link ≡ Nowhere)
+  by_row rows r f (λ z. z.says ≡ UnknownLink → row_found rows (length r) f.link ≡ None)
       (λ e q. e)
       (λ j e q. absurd (known (skew_in rows j) r j f q)),
   λ e. ap (λ z. z.says) (call_nowhere rows r f e),
@@ -105,9 +104,9 @@ later_delivery_is_none rows r f j e h p d q l =
     ∙ later_counts_as_none (skew_in rows j) (latest_time r j) (last_number r j f.network) d f.number f.time h p l
 
 -- the memory of a row that is found is lent whole
-pub memory_whole : (rows : List ℕ) (words link j : ℕ) → row_found rows words link ≡ At j → memory_words * j + memory_words ≤ words
-memory_whole rows words link j e =
-    memory_in_run (length rows) words _ refl j (row_is_first rows words link j e).0
+pub memory_whole : (rows : List ℕ) (words link j : ℕ) → row_found rows words link ≡ Some j → memory_words * j + memory_words ≤ words
+unfolding rows_in_use
+memory_whole rows words link j e = omega (arith, (row_is_first rows words link j e).0)
 
 -- ---- the memories after a call
 pub only_memory : (r : List ℕ) (j : ℕ) (f : Arrival) (a : Reception) → f.number < number_count → OnlyMemory j r (memory_after r j f a)
@@ -127,7 +126,7 @@ changes_own_memory rows r f h j e =
 
 module _ (r : List ℕ) (j : ℕ) (f : Arrival) (h : memory_words * j + memory_words ≤ length r) where
   pub both_kept : (a : Reception) → (a ≡ Late → ⊥) → (a ≡ UnknownLink → ⊥)
-      → (latest_time (memory_after r j f a) j ≡ f.time) × (last_number (memory_after r j f a) j f.network ≡ some f.number)
+      → (latest_time (memory_after r j f a) j ≡ f.time) × (last_number (memory_after r j f a) j f.network ≡ Some f.number)
   both_kept Late p q = absurd (p refl)
   both_kept UnknownLink p q = absurd (q refl)
   both_kept OutOfSequence p q = (noted_time r j h f, noted_number r j h f)

@@ -1,7 +1,7 @@
 -- Laws of what a memory says after an answer was stored. Assumes nothing.
 use Prim.Native.Nat.{ℕ, ◌+◌, ◌*◌, ◌≤◌, ◌<◌}
 use mathlib.Core.List.{List}
-use mathlib.Core.Option.{none, some}
+use Rattle.std.specs.Prelude.{Some, None}
 use mathlib.Core.Path.{◌≡◌, refl, ap, ap₂, ◌∙◌}
 use native.Mathlib.Omega.{arith}
 use lib.ListN.{length}
@@ -57,13 +57,13 @@ module _ (r : List ℕ) (j : ℕ) (h : memory_words * j + memory_words ≤ lengt
       word_other (store r j time_word f.time) j (number_word f.network) time_word (f.number + 1) (λ e. omega arith)
       ∙ word_same r j time_word f.time h (omega arith)
 
-  pub noted_number : last_number (noted r j f) j f.network ≡ some f.number
+  pub noted_number : last_number (noted r j f) j f.network ≡ Some f.number
   unfolding noted
   noted_number =
       let e = length_store r j time_word f.time in
       let w : word (store (store r j time_word f.time) j (number_word f.network) (f.number + 1)) j (number_word f.network) ≡ f.number + 1
       = word_same (store r j time_word f.time) j (number_word f.network) (f.number + 1) (omega arith) (number_inside f.network _ refl) in
-      ap number_of w ∙ number_some (f.number + 1) (λ z. omega arith) ∙ ap some (omega arith)
+      ap number_of w ∙ number_some (f.number + 1) (λ z. omega arith) ∙ ap Some (omega arith)
 
   pub noted_elsewhere : (k : ℕ) → (k ≡ time_word → ⊥) → (k ≡ number_word f.network → ⊥) → word (noted r j f) j k ≡ word r j k
   unfolding noted
@@ -93,7 +93,7 @@ module _ (r : List ℕ) (j : ℕ) (x : Network) (n : ℕ) where
   pub met_number : (y : Network) → last_number (met r j x n) j y ≡ last_number r j y
   met_number y = let i = index_low y in ap number_of (met_elsewhere (number_word y) (λ e. omega arith))
 
-  pub met_same : memory_words * j + memory_words ≤ length r → n < number_count → awaiting (met r j x n) j x n ≡ none
+  pub met_same : memory_words * j + memory_words ≤ length r → n < number_count → awaiting (met r j x n) j x n ≡ None
   unfolding met
   met_same h l = delivery_none _ _ (word_same r j (awaiting_word x n) 0 h (awaiting_inside x n _ refl l))
 
@@ -116,7 +116,7 @@ module _ (r : List ℕ) (j : ℕ) (f : Arrival) where
   delivered_number y = let i = index_low y in ap number_of (delivered_elsewhere (number_word y) (λ e. omega arith) (λ e. omega arith))
 
   pub delivered_same : memory_words * j + memory_words ≤ length r → f.number < number_count
-      → awaiting (delivered r j f) j f.network f.number ≡ some f.time
+      → awaiting (delivered r j f) j f.network f.number ≡ Some f.time
   unfolding delivered
   delivered_same h l =
       let e = length_store r j (awaiting_word f.network f.number) 1 in
@@ -127,7 +127,7 @@ module _ (r : List ℕ) (j : ℕ) (f : Arrival) where
       = word_same (store r j (awaiting_word f.network f.number) 1) j (delivered_word f.network f.number) f.time (omega arith)
       (let m = delivered_inside f.network f.number _ refl l in omega arith) in
       delivery_some _ _ (λ z. let q : word (store (store r j (awaiting_word f.network f.number) 1) j (delivered_word f.network f.number) f.time) j (awaiting_word f.network f.number) ≡ 0 = z in omega arith)
-      ∙ ap some d
+      ∙ ap Some d
 
   pub delivered_other : (y : Network) (m : ℕ) → (awaiting_word y m ≡ awaiting_word f.network f.number → ⊥)
       → awaiting (delivered r j f) j y m ≡ awaiting r j y m

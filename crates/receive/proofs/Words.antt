@@ -1,14 +1,13 @@
--- Laws of memories: words read and stored, rows in use. Assumes nothing.
+-- Laws of memories: words read and stored. Assumes nothing.
 use Prim.Native.Nat.{ℕ, ◌+◌, ◌*◌, ◌≤◌, ◌<◌}
 use mathlib.Core.List.{List}
-use mathlib.Core.Path.{◌≡◌, refl}
+use mathlib.Core.Path.{◌≡◌}
 use native.Mathlib.Omega.{arith}
-use lib.ListN.{length, get_or, set, length-set}
+use lib.ListN.{length, get_or, length-set}
 use lib.Seq.{get_or-set_same, get_or-set_other}
-use Rattle.rows.proofs.Rows.{row_inside}
 use Rattle.receive_answer.specs.declared.Network.{Network}
 use Rattle.receive_answer.specs.declared.Network.TheVariants.{A, B}
-use Rattle.receive.specs.Lent.{index, skew_row_octets, memory_words, rows_in_use, number_word, awaiting_word, word, store}
+use Rattle.receive.specs.Lent.{index, memory_words, number_word, awaiting_word, word, store}
 
 -- ---- offsets lie in a memory
 pub index_low : (x : Network) → index x < 2
@@ -25,28 +24,10 @@ module _ (x : Network) (n k : ℕ) (e : k ≡ awaiting_word x n) (h : n < 256) w
   pub delivered_inside : k + 1 < memory_words
   delivered_inside = let i = index_low x in omega arith
 
--- ---- one word
-pub word_is : (r : List ℕ) (j k : ℕ) → get_or r (memory_words * j + k) 0 ≡ word r j k
-unfolding word
-word_is r j k = refl
-
-pub store_is : (r : List ℕ) (j k v : ℕ) → set r (memory_words * j + k) v ≡ store r j k v
-unfolding store
-store_is r j k v = refl
-
+-- ---- one word stored
 pub length_store : (r : List ℕ) (j k v : ℕ) → length (store r j k v) ≡ length r
 unfolding store
 length_store r j k v = length-set r (memory_words * j + k) v
-
--- ---- rows in use lie in both runs
-module _ (octets words n : ℕ) (e : n ≡ rows_in_use octets words) where
-  pub row_in_run : (j : ℕ) → j < n → skew_row_octets * j + skew_row_octets ≤ octets
-  unfolding rows_in_use
-  row_in_run j h = row_inside skew_row_octets octets _ n e j h
-
-  pub memory_in_run : (j : ℕ) → j < n → memory_words * j + memory_words ≤ words
-  unfolding rows_in_use
-  memory_in_run j h = omega arith
 
 -- ---- a word read after another was stored
 -- in the same memory

@@ -1,10 +1,8 @@
 -- The form of rows and memories in figures (document 02, Q-1: "Links with their SkewMax are lent as rows, the first with a number
 -- counts; records start empty"); proved in proofs/Figures.antt.
-use Rattle.std.specs.Prelude.{ℕ, ◌+◌, ◌*◌, ◌≤◌, ◌<◌, List, [], ◌∷◌, ◌++◌, map, ◌↔◌, ◌≡◌, length}
-use Rattle.std.proofs.Math.Option.{none, some}
+use Rattle.std.specs.Prelude.{ℕ, ◌+◌, ◌*◌, ◌≤◌, ◌<◌, List, [], ◌∷◌, ◌++◌, map, ◌↔◌, ◌≡◌, length, Some, None}
 use Rattle.octets.specs.Numbers.{number_at}
 use Rattle.octets.specs.Spelled.{Part, part, spelled, Fit}
-use Rattle.rows.specs.declared.Found.TheVariants.{At, Nowhere}
 use Rattle.receive_sequence.specs.Sequence.{number_of}
 use Rattle.receive_answer.specs.Answer.{delivery_of}
 use Rattle.receive_answer.specs.declared.Network.TheVariants.{A, B}
@@ -20,7 +18,7 @@ three_rows = 1 ∷ 2 ∷ 3 ∷ 4 ∷ 5 ∷ 6 ∷ 7 ∷ 8 ∷ 9 ∷ 10 ∷ 11 ∷
 abbrev pub SkewRowFigures : Type 0
 SkewRowFigures =
     (map (skew_in three_rows) (0 ∷ 1 ∷ 2 ∷ []) ≡ 50595078 ∷ 151653132 ∷ 219025168 ∷ [])
-    × (map (row_found three_rows 3081) (258 ∷ 1800 ∷ 515 ∷ 3 ∷ []) ≡ At 0 ∷ At 1 ∷ Nowhere ∷ Nowhere ∷ [])
+    × (map (row_found three_rows 3081) (258 ∷ 1800 ∷ 515 ∷ 3 ∷ []) ≡ Some 0 ∷ Some 1 ∷ None ∷ None ∷ [])
 
 -- row j spelled from any values reads back as these values, whatever stands before and after it: number (2), SkewMax
 -- (4)
@@ -49,5 +47,5 @@ MemoryFigures =
     × (map (delivered_word A) (0 ∷ 1 ∷ 255 ∷ []) ≡ 4 ∷ 6 ∷ 514 ∷ [])
     × (map (awaiting_word B) (0 ∷ 1 ∷ 255 ∷ []) ≡ 515 ∷ 517 ∷ 1025 ∷ [])
     × (map (delivered_word B) (0 ∷ 1 ∷ 255 ∷ []) ≡ 516 ∷ 518 ∷ 1026 ∷ [])
-    × (map number_of (0 ∷ 1 ∷ 256 ∷ []) ≡ none ∷ some 0 ∷ some 255 ∷ [])
-    × (delivery_of 0 9 ≡ none) × (delivery_of 1 9 ≡ some 9)
+    × (map number_of (0 ∷ 1 ∷ 256 ∷ []) ≡ None ∷ Some 0 ∷ Some 255 ∷ [])
+    × (delivery_of 0 9 ≡ None) × (delivery_of 1 9 ≡ Some 9)

@@ -1,12 +1,11 @@
 -- What a receiving end is lent (document 02, Q-1): a row for each link and, in a run of words, a memory for each row in
 -- use. The papers leave the form of rows and memories open; this file states it.
-use Rattle.std.specs.Prelude.{ℕ, ◌+◌, ◌*◌, ◌/◌, List, length, get_or, set}
-use Rattle.std.proofs.Math.Option.{Option}
+use Rattle.std.specs.Prelude.{ℕ, ◌+◌, ◌*◌, ◌/◌, List, length, get_or, set, Option}
 use Rattle.octets.specs.Numbers.{number_at}
 use Rattle.receive_sequence.specs.Sequence.{number_of}
 use Rattle.receive_answer.specs.Answer.{delivery_of}
 use Rattle.rows.specs.Rows.{table_of, in_use, found_in}
-use Rattle.rows.specs.declared.Found.{Found}
+use Rattle.rows.specs.Rows.{Found}
 use Rattle.receive_answer.specs.declared.Arrival.{Arrival}
 use Rattle.receive_answer.specs.declared.Network.{Network}
 use Rattle.receive_answer.specs.declared.Network.TheVariants.{A, B}

@@ -1,8 +1,7 @@
 -- The receiving end's call (document 02, Q-1): what the call answers and the memories that it leaves, for any rows and
 -- memories whatsoever.
-use Rattle.std.specs.Prelude.{ℕ, List, length}
-use Rattle.rows.specs.declared.Found.{Found}
-use Rattle.rows.specs.declared.Found.TheVariants.{At, Nowhere}
+use Rattle.std.specs.Prelude.{ℕ, List, length, Some, None}
+use Rattle.rows.specs.Rows.{Found}
 use Rattle.receive_answer.specs.declared.Arrival.{Arrival}
 use Rattle.receive_answer.specs.declared.Reception.{Reception}
 use Rattle.receive_answer.specs.declared.Reception.TheVariants.{Delivered, Copy, OutOfSequence, UnknownLink, Late}
@@ -38,8 +37,8 @@ on_memory skew r j f = received_of (answer_by skew r j f) (memory_after r j f (a
 
 -- the answer and the memories after the call, by the row found: 4 where no row is found
 abbrev pub on_row : List ℕ → List ℕ → Arrival → Found → Received
-on_row rows r f Nowhere = received_of UnknownLink r
-on_row rows r f (At j) = on_memory (skew_in rows j) r j f
+on_row rows r f None = received_of UnknownLink r
+on_row rows r f (Some j) = on_memory (skew_in rows j) r j f
 
 unfoldable pub received : List ℕ → List ℕ → Arrival → Received
 received rows r f = on_row rows r f (row_found rows (length r) f.link)

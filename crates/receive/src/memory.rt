@@ -1,100 +1,97 @@
-// The memories, one after the other in one run of words: the index of a word, reading a word, and storing what an
-// answer leaves. A row's memory is lent whole wherever a word is read or stored.
-ghost use Rattle.std.specs.Prelude.{◌≡◌, ◌+◌, ◌*◌, ◌≤◌, ◌<◌, length};
-ghost use Rattle.receive.specs.Lent.{index, memory_words, number_word, awaiting_word, word, store, noted, met, delivered};
+// The memory of one link: the indices of its words, what it has for a frame, and storing what an answer leaves.
+ghost use Rattle.std.specs.Prelude.{◌≡◌};
+ghost use Rattle.receive.specs.Lent.{number_word, awaiting_word, latest_time, last_number, awaiting, noted, met, delivered};
 ghost use Rattle.receive.specs.Receive.{memory_after};
+ghost use Rattle.receive_answer.specs.Answer.{other};
 
 use super::MEMORY_WORDS;
-use receive_answer::{Arrival, Network, Reception};
+use receive_answer::{Arrival, Network, Reception, Remembered};
+
+// The words of one link's memory.
+pub(crate) type Memory = [u64; MEMORY_WORDS];
 
 // The index of the word with the link's last time.
-pub(crate) const TIME_WORD: usize = 0;
+const TIME: usize = 0;
 
-fn index(network: Network) -> usize
-    ensures { result ≡ index network }
-{
-    match network {
-        Network::A => 0,
-        Network::B => 1,
-    }
-}
+// The index of the first of two words with the last number on each network.
+const FIRST_NUMBER: usize = 1;
+
+// The index of the first delivery's words.
+pub(crate) const FIRST_DELIVERY: usize = 3;
+
+// Words of a delivery: whether it awaits its copy, then its time.
+const DELIVERY_WORDS: usize = 2;
+
+// Words of a network's deliveries, one of each number.
+pub(crate) const NETWORK_WORDS: usize = 256 * DELIVERY_WORDS;
 
 // The index of the word with the last number received on a network.
-pub(crate) fn number_word(network: Network) -> usize
+fn number_word(network: Network) -> usize
     ensures { result ≡ number_word network }
 {
-    1 + index(network)
+    FIRST_NUMBER + network as usize
 }
 
 // The index of the word that says whether the delivery of a number on a network awaits its copy; the delivery's time is
-// in the next word. Two words a number, 256 numbers a network, after the time and the two last numbers.
-pub(crate) fn awaiting_word(network: Network, number: u8) -> usize
+// in the next word.
+fn awaiting_word(network: Network, number: u8) -> usize
     ensures { result ≡ awaiting_word network number }
 {
-    3 + 512 * index(network) + 2 * number as usize
+    FIRST_DELIVERY + NETWORK_WORDS * network as usize + DELIVERY_WORDS * number as usize
 }
 
-pub(crate) fn word(memory: &[u64], row: usize, at: usize) -> u64
-    requires row_inside { memory_words * row + memory_words ≤ length memory.now }
-    requires word_inside { at < memory_words }
-    ensures { result ≡ word memory.now row at }
+// What the memory has for a frame.
+#[tactic(auto, unfolding(crate::specs::Lent::word, receive_answer::specs::Answer::delivery_of, receive_sequence::specs::Sequence::number_of))]
+pub(crate) fn remembered(memory: &Memory, frame: Arrival) -> Remembered
+    ensures time { result.time ≡ latest_time memory.now 0 }
+    ensures number { result.last ≡ last_number memory.now 0 frame.network }
+    ensures delivery { result.delivery ≡ awaiting memory.now 0 (other frame.network) frame.number }
 {
-    memory[MEMORY_WORDS * row + at]
-}
-
-fn store(memory: &mut [u64], row: usize, at: usize, value: u64)
-    requires row_inside { memory_words * row + memory_words ≤ length memory.old }
-    requires word_inside { at < memory_words }
-    ensures { memory.new ≡ store memory.old row at value }
-{
-    memory[MEMORY_WORDS * row + at] = value;
+    let at = awaiting_word(frame.network.other(), frame.number);
+    Remembered {
+        time: memory[TIME],
+        last: memory[number_word(frame.network)].checked_sub(1),
+        delivery: (memory[at] != 0).then_some(memory[at + 1]),
+    }
 }
 
 // Stores a frame's time and number.
-fn note(memory: &mut [u64], row: usize, frame: Arrival)
-    requires { memory_words * row + memory_words ≤ length memory.old }
-    ensures { memory.new ≡ noted memory.old row frame }
+#[tactic(auto, unfolding(crate::specs::Lent::noted, crate::specs::Lent::store))]
+fn note(memory: &mut Memory, frame: Arrival)
+    ensures { memory.new ≡ noted memory.old 0 frame }
 {
-    let network = frame.network;
-    let held = frame.number as u64 + 1;
-    store(memory, row, TIME_WORD, frame.time);
-    store(memory, row, number_word(network), held);
+    memory[TIME] = frame.time;
+    memory[number_word(frame.network)] = frame.number as u64 + 1;
 }
 
-// Stores that a delivery has met its copy.
-fn meet(memory: &mut [u64], row: usize, network: Network, number: u8)
-    requires { memory_words * row + memory_words ≤ length memory.old }
-    ensures { memory.new ≡ met memory.old row network number }
+// Stores that the other network's delivery of a frame's number has met its copy.
+#[tactic(auto, unfolding(crate::specs::Lent::met, crate::specs::Lent::store))]
+fn meet(memory: &mut Memory, frame: Arrival)
+    ensures { memory.new ≡ met memory.old 0 (other frame.network) frame.number }
 {
-    store(memory, row, awaiting_word(network, number), 0);
+    memory[awaiting_word(frame.network.other(), frame.number)] = 0;
 }
 
 // Stores a delivery that awaits its copy.
-fn await_copy(memory: &mut [u64], row: usize, frame: Arrival)
-    requires { memory_words * row + memory_words ≤ length memory.old }
-    ensures { memory.new ≡ delivered memory.old row frame }
+#[tactic(auto, unfolding(crate::specs::Lent::delivered, crate::specs::Lent::store))]
+fn await_copy(memory: &mut Memory, frame: Arrival)
+    ensures { memory.new ≡ delivered memory.old 0 frame }
 {
-    let network = frame.network;
-    let at = awaiting_word(network, frame.number);
-    store(memory, row, at, 1);
-    store(memory, row, at + 1, frame.time);
+    let at = awaiting_word(frame.network, frame.number);
+    memory[at] = 1;
+    memory[at + 1] = frame.time;
 }
 
 // Stores what an answer leaves.
-pub(crate) fn store_answer(memory: &mut [u64], row: usize, frame: Arrival, answer: Reception)
-    requires { memory_words * row + memory_words ≤ length memory.old }
-    ensures { memory.new ≡ memory_after memory.old row frame answer }
+pub(crate) fn store_answer(memory: &mut Memory, frame: Arrival, answer: Reception)
+    ensures { memory.new ≡ memory_after memory.old 0 frame answer }
 {
-    if !answer.taken() {
-        return;
+    if answer.taken() {
+        note(memory, frame);
     }
-    note(memory, row, frame);
-    let network = frame.network;
     match answer {
-        Reception::Copy => meet(memory, row, receive_answer::other(network), frame.number),
-        Reception::Delivered => await_copy(memory, row, frame),
-        Reception::OutOfSequence => (),
-        Reception::UnknownLink => (),
-        Reception::Late => (),
+        Reception::Copy => meet(memory, frame),
+        Reception::Delivered => await_copy(memory, frame),
+        _ => (),
     }
 }

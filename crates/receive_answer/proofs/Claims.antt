@@ -3,12 +3,11 @@ use Prim.Native.Nat.{ℕ, ◌-◌, ◌≤◌}
 use mathlib.Core.Bool.{true, ◌&&◌, false≢true}
 use mathlib.Core.List.{[], ◌∷◌, Memᴰ}
 use mathlib.Core.Logic.{◌↔◌}
-use mathlib.Core.Option.{Option, none, some}
+use Rattle.std.specs.Prelude.{Option, Some, None, if◌then◌else◌}
 use mathlib.Core.Path.{◌≡◌, refl, sym, ap, ap₂, ◌∙◌}
 use native.Mathlib.Omega.{arith}
 use lib.Dec.{eqb, leb}
 use borrow.Author.Tests.{leb-true, le-leb}
-use Rattle.std.specs.Prelude.{if◌then◌else◌}
 use Rattle.lists.proofs.Tests.{both}
 use Rattle.receive_sequence.specs.Sequence.{passes}
 use Rattle.receive_answer.specs.Answer.{reception_code, in_skew, reception_by}
@@ -20,7 +19,7 @@ use Rattle.receive_answer.proofs.Answer.{by_reception}
 pub reception_numbers : ReceptionNumbers
 reception_numbers = refl
 
--- ---- answers by their numbers
+-- the answer with a number
 heard : ℕ → Reception
 heard n =
     if eqb n 0 then Delivered
@@ -56,25 +55,17 @@ answers_in_figures = refl
 -- a delivery awaits the frame exactly where the test says so
 pub awaits_copy : (skew : ℕ) (o : Option ℕ) (t : ℕ) → in_skew skew o t ≡ true → AwaitsCopy skew o t
 unfolding in_skew
-awaits_copy skew none t e = absurd (false≢true e)
-awaits_copy skew (some d) t e =
+awaits_copy skew None t e = absurd (false≢true e)
+awaits_copy skew (Some d) t e =
     let b = both (leb d t) (leb (t - d) skew) e in
     record { time = d; awaits = refl; not_after = leb-true _ _ b.0; in_skew_lem = leb-true _ _ b.1 }
 
-pub in_skew_at : (skew d t : ℕ) → d ≤ t → t - d ≤ skew → in_skew skew (some d) t ≡ true
+pub in_skew_at : (skew d t : ℕ) → d ≤ t → t - d ≤ skew → in_skew skew (Some d) t ≡ true
 unfolding in_skew
 in_skew_at skew d t h l = ap₂ ◌&&◌ (le-leb _ _ h) (le-leb _ _ l)
 
 pub copy_awaited : (skew : ℕ) (o : Option ℕ) (t : ℕ) → AwaitsCopy skew o t → in_skew skew o t ≡ true
 copy_awaited skew o t w = ap (λ (x : Option ℕ). in_skew skew x t) w.awaits ∙ in_skew_at skew w.time t w.not_after w.in_skew_lem
-
--- an index for each answer, independent of its number
-abbrev place : Reception → ℕ
-place Delivered = 0
-place Copy = 1
-place OutOfSequence = 2
-place UnknownLink = 3
-place Late = 4
 
 both_hold : {A B : Type 0} → A → B → A ↔ B
 both_hold a b = (λ _. b, λ _. a)
@@ -88,38 +79,33 @@ answers_exactly skew last number delivery n t =
     (λ h.
     record {
       late = both_hold refl h;
-      out = neither_holds (λ e. let z : 4 ≡ 2 = ap place e in omega arith) (λ q. let l : last ≤ t = q.0 in omega arith);
-      copy = neither_holds (λ e. let z : 4 ≡ 1 = ap place e in omega arith) (λ q. let l : last ≤ t = q.0 in omega arith);
-      delivered = neither_holds (λ e. let z : 4 ≡ 0 = ap place e in omega arith) (λ q. let l : last ≤ t = q.0 in omega arith);
+      out = neither_holds (λ e. cc) (λ q. let l : last ≤ t = q.0 in omega arith);
+      copy = neither_holds (λ e. cc) (λ q. let l : last ≤ t = q.0 in omega arith);
+      delivered = neither_holds (λ e. cc) (λ q. let l : last ≤ t = q.0 in omega arith);
     })
     (λ h p.
     record {
-      late = neither_holds (λ e. let z : 2 ≡ 4 = ap place e in omega arith) (λ l. omega arith);
+      late = neither_holds (λ e. cc) (λ l. omega arith);
       out = both_hold refl (h, p);
-      copy = neither_holds (λ e. let z : 2 ≡ 1 = ap place e in omega arith) (λ q. false≢true (sym p ∙ q.1));
-      delivered = neither_holds (λ e. let z : 2 ≡ 0 = ap place e in omega arith) (λ q. false≢true (sym p ∙ q.1));
+      copy = neither_holds (λ e. cc) (λ q. false≢true (sym p ∙ q.1));
+      delivered = neither_holds (λ e. cc) (λ q. false≢true (sym p ∙ q.1));
     })
     (λ h p s.
     record {
-      late = neither_holds (λ e. let z : 1 ≡ 4 = ap place e in omega arith) (λ l. omega arith);
-      out = neither_holds (λ e. let z : 1 ≡ 2 = ap place e in omega arith) (λ q. false≢true (sym q.1 ∙ p));
+      late = neither_holds (λ e. cc) (λ l. omega arith);
+      out = neither_holds (λ e. cc) (λ q. false≢true (sym q.1 ∙ p));
       copy = both_hold refl (h, p, awaits_copy skew delivery t s);
-      delivered = neither_holds (λ e. let z : 1 ≡ 0 = ap place e in omega arith) (λ q. q.2 (awaits_copy skew delivery t s));
+      delivered = neither_holds (λ e. cc) (λ q. q.2 (awaits_copy skew delivery t s));
     })
     (λ h p s.
     record {
-      late = neither_holds (λ e. let z : 0 ≡ 4 = ap place e in omega arith) (λ l. omega arith);
-      out = neither_holds (λ e. let z : 0 ≡ 2 = ap place e in omega arith) (λ q. false≢true (sym q.1 ∙ p));
-      copy = neither_holds (λ e. let z : 0 ≡ 1 = ap place e in omega arith) (λ q. false≢true (sym s ∙ copy_awaited skew delivery t q.2));
+      late = neither_holds (λ e. cc) (λ l. omega arith);
+      out = neither_holds (λ e. cc) (λ q. false≢true (sym q.1 ∙ p));
+      copy = neither_holds (λ e. cc) (λ q. false≢true (sym s ∙ copy_awaited skew delivery t q.2));
       delivered = both_hold refl (h, p, λ w. false≢true (sym s ∙ copy_awaited skew delivery t w));
     })
 
-amount : Option ℕ → ℕ
-amount none = 0
-amount (some x) = x
-
 pub later_counts_as_none : LaterCountsAsNone
-unfolding amount
 later_counts_as_none skew last number d n t h p l =
-    (answers_exactly skew last number (some d) n t).delivered.1
-    (h, p, λ w. let e : d ≡ w.time = ap amount w.awaits in let q : w.time ≤ t = w.not_after in omega arith)
+    (answers_exactly skew last number (Some d) n t).delivered.1
+    (h, p, λ w. let e : d ≡ w.time = cc in let q : w.time ≤ t = w.not_after in omega arith)

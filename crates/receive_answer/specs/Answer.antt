@@ -1,8 +1,6 @@
 -- The receiving end's answers (document 02, Q-1): what a frame is answered, from what the frame's link remembers.
-use Rattle.std.specs.Prelude.{ℕ, ◌-◌, Bool, true, false, not, ◌&&◌, leb, ltb, eqb}
-use Rattle.std.proofs.Math.Option.{Option, none, some}
+use Rattle.std.specs.Prelude.{ℕ, ◌-◌, Bool, true, false, not, ◌&&◌, leb, ltb, eqb, Option, Some, None, if◌then◌else◌}
 use Rattle.codes.specs.Codes
-use Rattle.std.specs.Prelude.{if◌then◌else◌}
 use Rattle.receive_sequence.specs.Sequence.{passes}
 use Rattle.receive_answer.specs.declared.Arrival.{Arrival}
 use Rattle.receive_answer.specs.declared.Network.{Network}
@@ -37,7 +35,7 @@ taken Late = false
 -- the time of a delivery that awaits its copy, from two words: the first is 0 where no delivery does, the second is the
 -- time
 unfoldable pub delivery_of : ℕ → ℕ → Option ℕ
-delivery_of waits time = if eqb waits 0 then none else some time
+delivery_of waits time = if eqb waits 0 then None else Some time
 
 -- ---- the rule, for a frame of number n with time t on a link with this SkewMax: from the link's last time, the last
 -- number received on the frame's network, and the time of the other network's latest delivery of n, if that delivery
@@ -45,8 +43,8 @@ delivery_of waits time = if eqb waits 0 then none else some time
 
 -- whether that delivery is no more than SkewMax old; a delivery timed after the frame counts as none
 unfoldable pub in_skew : ℕ → Option ℕ → ℕ → Bool
-in_skew skew none t = false
-in_skew skew (some d) t = leb d t && leb (t - d) skew
+in_skew skew None t = false
+in_skew skew (Some d) t = leb d t && leb (t - d) skew
 
 unfoldable pub reception_by : ℕ → ℕ → Option ℕ → Option ℕ → ℕ → ℕ → Reception
 reception_by skew time number delivery n t =

@@ -1,6 +1,5 @@
 -- What holds of the receiving end's answers (document 02, Q-1); proved in proofs/Claims.antt.
-use Rattle.std.specs.Prelude.{ℕ, ◌-◌, ◌≤◌, ◌<◌, true, false, [], ◌∷◌, map, ◌↔◌, ◌≡◌}
-use Rattle.std.proofs.Math.Option.{Option, none, some}
+use Rattle.std.specs.Prelude.{ℕ, ◌-◌, ◌≤◌, ◌<◌, true, false, [], ◌∷◌, map, ◌↔◌, ◌≡◌, Option, Some, None}
 use Rattle.receive_sequence.specs.Sequence.{passes}
 use Rattle.receive_answer.specs.Answer.{reception_code, reception_by}
 use Rattle.receive_answer.specs.declared.Reception.{Reception}
@@ -19,7 +18,7 @@ ReceptionNumbers = map reception_code (Delivered ∷ Copy ∷ OutOfSequence ∷ 
 -- the other network's delivery of n awaits its copy, is not timed after the frame, and is no more than SkewMax old
 pub record AwaitsCopy (skew : ℕ) (delivery : Option ℕ) (t : ℕ) : Type 0 where
   pub time : ℕ
-  pub awaits : delivery ≡ some time
+  pub awaits : delivery ≡ Some time
   pub not_after : time ≤ t
   pub in_skew_lem : t - time ≤ skew
 
@@ -40,10 +39,10 @@ AnswersExactly =
 abbrev pub LaterCountsAsNone : Type 0
 LaterCountsAsNone =
     (skew last : ℕ) (number : Option ℕ) (d n t : ℕ) → last ≤ t → passes number n ≡ true → t < d
-    → reception_by skew last number (some d) n t ≡ Delivered
+    → reception_by skew last number (Some d) n t ≡ Delivered
 
 -- the answers in figures: SkewMax 100, last time 40, first on its network, a delivery at 50
 abbrev pub AnswersInFigures : Type 0
 AnswersInFigures =
-    map (reception_by 100 40 none (some 50) 7) (39 ∷ 40 ∷ 49 ∷ 50 ∷ 150 ∷ 151 ∷ [])
+    map (reception_by 100 40 None (Some 50) 7) (39 ∷ 40 ∷ 49 ∷ 50 ∷ 150 ∷ 151 ∷ [])
     ≡ Late ∷ Delivered ∷ Delivered ∷ Copy ∷ Copy ∷ Delivered ∷ []

@@ -2,7 +2,7 @@
 use Prim.Native.Nat.{ℕ, ◌+◌, ◌≤◌}
 use mathlib.Core.Bool.{Bool, true, false, ◌&&◌, and-false}
 use mathlib.Core.List.{List, [], ◌∷◌}
-use mathlib.Core.Option.{Option, none, some}
+use Rattle.std.specs.Prelude.{Option, Some, None}
 use mathlib.Core.Path.{◌≡◌, refl, sym, ap, ap₂, ◌∙◌, subst}
 use native.Mathlib.Omega.{arith}
 use lib.ListN.{length}
@@ -11,8 +11,7 @@ use Rattle.lists.specs.History.{answers}
 use Rattle.lists.specs.Lists.{only}
 use Rattle.lists.proofs.Lists.{only_none, only_take, only_drop}
 use Rattle.lists.proofs.Tests.{split}
-use Rattle.rows.specs.declared.Found.{Found}
-use Rattle.rows.specs.declared.Found.TheVariants.{At, Nowhere}
+use Rattle.rows.specs.Rows.{Found}
 use Rattle.receive_answer.specs.declared.Arrival.{Arrival}
 use Rattle.receive_answer.specs.declared.Network.{Network}
 use Rattle.receive_answer.specs.declared.Reception.{Reception}
@@ -48,21 +47,21 @@ count_more t a rest =
 
 -- a delivery that awaits its copy
 waits : Option ℕ → ℕ
-waits none = 0
-waits (some d) = 1
+waits None = 0
+waits (Some d) = 1
 
-waits_none : waits none ≡ 0
+waits_none : waits None ≡ 0
 unfolding waits
 waits_none = refl
 
-waits_some : (d : ℕ) → waits (some d) ≡ 1
+waits_some : (d : ℕ) → waits (Some d) ≡ 1
 unfolding waits
 waits_some d = refl
 
 waits_high : (o : Option ℕ) → waits o ≤ 1
 unfolding waits
-waits_high none = omega arith
-waits_high (some d) = omega arith
+waits_high None = omega arith
+waits_high (Some d) = omega arith
 
 -- where a copy is answered, a delivery awaits it
 copy_waits : (rows : List ℕ) (words : ℕ) (p : List Answered) (f : Arrival) → rule_answer rows words p f ≡ Copy
@@ -70,8 +69,8 @@ copy_waits : (rows : List ℕ) (words : ℕ) (p : List Answered) (f : Arrival) �
 copy_waits rows words p f e = cases (row_found rows words f.link) refl
   where
     cases : (d : Found) → row_found rows words f.link ≡ d → waits (unmet (other f.network) f.number (of_link f.link p)) ≡ 1
-    cases Nowhere q = let z : ◌≡◌ {A = ℕ} 4 30 = ap reception_code (sym (rule_nowhere rows words p f q) ∙ e) in absurd (omega arith)
-    cases (At j) q =
+    cases None q = let z : ◌≡◌ {A = ℕ} 4 30 = ap reception_code (sym (rule_nowhere rows words p f q) ∙ e) in absurd (omega arith)
+    cases (Some j) q =
         let w = awaits_copy (skew_in rows j) (unmet (other f.network) f.number (of_link f.link p)) f.time (copy_skew (skew_in rows j) (of_link f.link p) f (sym (rule_at rows words p f j q) ∙ e)) in
         ap waits w.awaits ∙ waits_some w.time
 
@@ -119,7 +118,7 @@ module _ (link : ℕ) (x : Network) (n : ℕ) (f : Arrival) (p : List Answered) 
         split (numbered x n f)
         (λ e.
         let u : numbered (other (other x)) n f ≡ true = subst (λ (z : Network). numbered z n f ≡ true) (sym (other_other x)) e in
-        let d : due (answered_of f Copy ∷ p) ≡ 0 = joined Copy none (joins link f p Copy on refl) (unmet_met (other x) n f (of_link link p) u) ∙ waits_none in
+        let d : due (answered_of f Copy ∷ p) ≡ 0 = joined Copy None (joins link f p Copy on refl) (unmet_met (other x) n f (of_link link p) u) ∙ waits_none in
         let c : copied Copy ≡ 1 = one_true _ (ap₂ (λ (b c : Bool). b && (c && true)) on e) in
         let q : due p ≡ 1 = w e in omega arith)
         (λ e.

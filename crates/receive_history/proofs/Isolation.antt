@@ -1,7 +1,7 @@
 -- Isolation: a link's answers and its memory depend on the link's SkewMax, the memory at the start and the link's own
 -- frames alone. Assumes nothing.
 use Prim.Native.Nat.{ℕ, ◌+◌, ◌*◌, ◌≤◌, ◌<◌}
-use mathlib.Core.Bool.{false, false≢true}
+use mathlib.Core.Bool.{false}
 use mathlib.Core.List.{List}
 use mathlib.Core.Path.{◌≡◌, refl, sym, ap, ap₂, ◌∙◌}
 use native.Mathlib.Omega.{arith}
@@ -11,8 +11,8 @@ use Rattle.lists.specs.History.{Machine}
 use Rattle.lists.specs.Lists.{only}
 use Rattle.lists.proofs.History.{SimulatesPicked, alike}
 use Rattle.octets.proofs.Parts.{get_d_within, part_same, part_take}
-use Rattle.rows.specs.declared.Found.{Found}
-use Rattle.rows.specs.declared.Found.TheVariants.{At, Nowhere}
+use Rattle.rows.specs.Rows.{Found}
+use Rattle.std.specs.Prelude.{Some, None}
 use Rattle.receive_sequence.specs.Sequence.{number_count}
 use Rattle.receive_answer.specs.declared.Arrival.{Arrival}
 use Rattle.receive_answer.specs.declared.Reception.TheVariants.{UnknownLink}
@@ -24,7 +24,6 @@ use Rattle.receive.proofs.Stored.{left_beside}
 use Rattle.receive.proofs.Claims.{row_is_first, memory_whole, changes_own_memory, by_own_memory}
 use Rattle.receive_history.specs.History.{Answered, answered_of, receiving, final_memory, Empty, Octets, on_link, skew_by, memory_by, memory_of}
 use Rattle.receive_history.specs.Isolation.{SameOnLink, ReceptionsApartFromAny, ReceptionsApart}
-use Rattle.receive_history.proofs.Memory.{some?, amount}
 use Rattle.receive_history.proofs.Rule.{rows_apart}
 
 -- ---- a call keeps the number of words
@@ -32,11 +31,11 @@ length_call : (rows r : List ℕ) (f : Arrival) → f.number < number_count → 
 length_call rows r f h = cases (row_found rows (length r) f.link) refl
   where
     cases : (d : Found) → row_found rows (length r) f.link ≡ d → length (received rows r f).memory ≡ length r
-    cases Nowhere e = ap (λ (z : Received). length z.memory) (call_nowhere rows r f e)
-    cases (At j) e = (changes_own_memory rows r f h j e).long
+    cases None e = ap (λ (z : Received). length z.memory) (call_nowhere rows r f e)
+    cases (Some j) e = (changes_own_memory rows r f h j e).long
 
 -- a call on another link leaves the memory of row i unchanged
-beside : (rows r : List ℕ) (link i : ℕ) → row_found rows (length r) link ≡ At i → (f : Arrival) → f.number < number_count → on_link link f ≡ false
+beside : (rows r : List ℕ) (link i : ℕ) → row_found rows (length r) link ≡ Some i → (f : Arrival) → f.number < number_count → on_link link f ≡ false
     → SameMemory (received rows r f).memory i r i
 beside rows r link i e f h off =
     by_row rows r f (λ z. SameMemory z.memory i r i)
@@ -44,8 +43,8 @@ beside rows r link i e f h off =
     (λ j q. left_beside r j f (answer_by (skew_in rows j) r j f) h i (rows_apart rows (length r) link f.link i j e q (λ m. eqb-false _ _ off (sym m))))
 
 -- ---- a history on memories r, and its frames of one link on memories s, in which that link's memory is the same
-module _ (link : ℕ) (rows : List ℕ) (words j : ℕ) (e : row_found rows words link ≡ At j)
-    (rows' : List ℕ) (words' i : ℕ) (e' : row_found rows' words' link ≡ At i) (skew : skew_in rows j ≡ skew_in rows' i) where
+module _ (link : ℕ) (rows : List ℕ) (words j : ℕ) (e : row_found rows words link ≡ Some j)
+    (rows' : List ℕ) (words' i : ℕ) (e' : row_found rows' words' link ≡ Some i) (skew : skew_in rows j ≡ skew_in rows' i) where
   abbrev Same : List ℕ → List ℕ → Type 0
   Same s r = (length r ≡ words) × (length s ≡ words') × SameMemory r j s i
 
@@ -54,12 +53,12 @@ module _ (link : ℕ) (rows : List ℕ) (words j : ℕ) (e : row_found rows word
       record {
         picked = λ f m on s r q.
             let l : f.link ≡ link = eqb-true _ _ on in
-            let p : row_found rows (length r) f.link ≡ At j = ap₂ (row_found rows) q.0 l ∙ e in
-            let p' : row_found rows' (length s) f.link ≡ At i = ap₂ (row_found rows') q.1 l ∙ e' in
+            let p : row_found rows (length r) f.link ≡ Some j = ap₂ (row_found rows) q.0 l ∙ e in
+            let p' : row_found rows' (length s) f.link ≡ Some i = ap₂ (row_found rows') q.1 l ∙ e' in
             let b = by_own_memory rows r j rows' s i f (o f m) p p' skew q.2 in
             (ap (answered_of f) b.0, (length_call rows r f (o f m) ∙ q.0, length_call rows' s f (o f m) ∙ q.1, b.1));
         others = λ f m off s r q.
-            let p : row_found rows (length r) link ≡ At j = ap (λ (k : ℕ). row_found rows k link) q.0 ∙ e in
+            let p : row_found rows (length r) link ≡ Some j = ap (λ (k : ℕ). row_found rows k link) q.0 ∙ e in
             (length_call rows r f (o f m) ∙ q.0, q.1, λ k l. beside rows r link j p f (o f m) off k l ∙ q.2 k l);
       }
 
@@ -67,12 +66,12 @@ module _ (link : ℕ) (rows : List ℕ) (words j : ℕ) (e : row_found rows word
 abbrev refusing : Machine Unit Arrival Answered
 refusing = record { says = λ _ f. answered_of f UnknownLink; leaves = λ _ _. tt }
 
-unknown : (link : ℕ) (rows : List ℕ) (words : ℕ) → row_found rows words link ≡ Nowhere → (h : List Arrival) → Octets h
+unknown : (link : ℕ) (rows : List ℕ) (words : ℕ) → row_found rows words link ≡ None → (h : List Arrival) → Octets h
     → SimulatesPicked (receiving rows) refusing (on_link link) (λ _ r. length r ≡ words) h
 unknown link rows words e h o =
     record {
       picked = λ f m on _ r n.
-          let p : row_found rows (length r) f.link ≡ Nowhere = ap₂ (row_found rows) n (eqb-true _ _ on) ∙ e in
+          let p : row_found rows (length r) f.link ≡ None = ap₂ (row_found rows) n (eqb-true _ _ on) ∙ e in
           (ap (λ (z : Received). answered_of f z.says) (call_nowhere rows r f p), length_call rows r f (o f m) ∙ n);
       others = λ f m off _ r n. length_call rows r f (o f m) ∙ n;
     }
@@ -101,18 +100,18 @@ memory_at rows w words link d n e = ap (memory_by w) (ap (λ (k : ℕ). row_foun
 -- ---- two histories
 module _ (link : ℕ) (rows r : List ℕ) (h : List Arrival) (o : Octets h)
     (rows' r' : List ℕ) (h' : List Arrival) (o' : Octets h') (g : only (on_link link) h ≡ only (on_link link) h') where
-  both_unknown : row_found rows (length r) link ≡ Nowhere → row_found rows' (length r') link ≡ Nowhere → SameOnLink link rows r h rows' r' h'
+  both_unknown : row_found rows (length r) link ≡ None → row_found rows' (length r') link ≡ None → SameOnLink link rows r h rows' r' h'
   both_unknown e e' =
       let a = alike h h' (unknown link rows (length r) e h o) (unknown link rows' (length r') e' h' o') g tt r refl r' refl in
       record {
         says = a.0;
         leaves =
-            memory_at rows (final_memory rows r h) (length r) link Nowhere a.1 e
-            ∙ sym (memory_at rows' (final_memory rows' r' h') (length r') link Nowhere a.2 e');
+            memory_at rows (final_memory rows r h) (length r) link None a.1 e
+            ∙ sym (memory_at rows' (final_memory rows' r' h') (length r') link None a.2 e');
       }
 
-  both_known : (j i : ℕ) → row_found rows (length r) link ≡ At j → row_found rows' (length r') link ≡ At i → skew_in rows j ≡ skew_in rows' i
-      → memory_by r (At j) ≡ memory_by r' (At i) → SameOnLink link rows r h rows' r' h'
+  both_known : (j i : ℕ) → row_found rows (length r) link ≡ Some j → row_found rows' (length r') link ≡ Some i → skew_in rows j ≡ skew_in rows' i
+      → memory_by r (Some j) ≡ memory_by r' (Some i) → SameOnLink link rows r h rows' r' h'
   both_known j i e e' skew m =
       let a = alike h h'
       (known link rows (length r) j e rows' (length r') i e' skew h o)
@@ -125,18 +124,18 @@ module _ (link : ℕ) (rows r : List ℕ) (h : List Arrival) (o : Octets h)
       record {
         says = a.0;
         leaves =
-            memory_at rows (final_memory rows r h) (length r) link (At j) n e
+            memory_at rows (final_memory rows r h) (length r) link (Some j) n e
             ∙ same_words (final_memory rows r h) (final_memory rows' r' h') j i (omega arith) (omega arith)
             (λ k l. a.1.2 k l ∙ sym (a.2.2 k l))
-            ∙ sym (memory_at rows' (final_memory rows' r' h') (length r') link (At i) n' e');
+            ∙ sym (memory_at rows' (final_memory rows' r' h') (length r') link (Some i) n' e');
       }
 
   same_on_link : (d d' : Found) → row_found rows (length r) link ≡ d → row_found rows' (length r') link ≡ d' → skew_by rows d ≡ skew_by rows' d'
       → memory_by r d ≡ memory_by r' d' → SameOnLink link rows r h rows' r' h'
-  same_on_link Nowhere Nowhere e e' s m = both_unknown e e'
-  same_on_link (At j) (At i) e e' s m = both_known j i e e' (ap amount s) m
-  same_on_link Nowhere (At i) e e' s m = absurd (false≢true (ap some? s))
-  same_on_link (At j) Nowhere e e' s m = absurd (false≢true (sym (ap some? s)))
+  same_on_link None None e e' s m = both_unknown e e'
+  same_on_link (Some j) (Some i) e e' s m = both_known j i e e' (cc) m
+  same_on_link None (Some i) e e' s m = cc
+  same_on_link (Some j) None e e' s m = cc
 
 pub receptions_apart_from_any : ReceptionsApartFromAny
 receptions_apart_from_any link rows r h o rows' r' h' o' s m g =
@@ -146,14 +145,14 @@ receptions_apart_from_any link rows r h o rows' r' h' o' s m g =
 module _ (link : ℕ) (rows r : List ℕ) (z : Empty rows r) (rows' r' : List ℕ) (z' : Empty rows' r') where
   both_empty : (d d' : Found) → row_found rows (length r) link ≡ d → row_found rows' (length r') link ≡ d' → skew_by rows d ≡ skew_by rows' d'
       → memory_by r d ≡ memory_by r' d'
-  both_empty Nowhere Nowhere e e' s = refl
-  both_empty (At j) (At i) e e' s =
+  both_empty None None e e' s = refl
+  both_empty (Some j) (Some i) e e' s =
       let u = (row_is_first rows (length r) link j e).0 in
       let u' = (row_is_first rows' (length r') link i e').0 in
       same_words r r' j i (memory_whole rows (length r) link j e) (memory_whole rows' (length r') link i e')
       (λ k l. z j u k l ∙ sym (z' i u' k l))
-  both_empty Nowhere (At i) e e' s = absurd (false≢true (ap some? s))
-  both_empty (At j) Nowhere e e' s = absurd (false≢true (sym (ap some? s)))
+  both_empty None (Some i) e e' s = cc
+  both_empty (Some j) None e e' s = cc
 
 pub receptions_apart : ReceptionsApart
 receptions_apart link rows r z h o rows' r' z' h' o' s g =

@@ -4,12 +4,11 @@ use mathlib.Core.Bool.{true, false, false≢true}
 use mathlib.Core.List.Memᴰ
 use mathlib.Core.List.{List, [], ◌∷◌, ◌++◌, head-eq_of_cons-eq, tail-eq_of_cons-eq, Memᴰ}
 use mathlib.Core.Logic.{◌⊎◌, inl, inr, ⊎_elim}
-use mathlib.Core.Option.{Option, some}
+use Rattle.std.specs.Prelude.{Option, Some, None}
 use mathlib.Core.Path.{◌≡◌, refl, sym, ap, ◌∙◌, subst}
 use native.Mathlib.Omega.{arith}
 use lib.ListN.{length}
 use Rattle.lists.proofs.Tests.{split}
-use Rattle.rows.specs.declared.Found.TheVariants.{At, Nowhere}
 use Rattle.receive_answer.specs.declared.Arrival.{Arrival}
 use Rattle.receive_answer.specs.declared.Network.{Network}
 use Rattle.receive_answer.specs.declared.Reception.{Reception}
@@ -22,7 +21,7 @@ use Rattle.receive_answer.proofs.Claims.{awaits_copy, in_skew_at}
 use Rattle.receive_history.specs.History.{Answered, answered_of, Empty, Octets}
 use Rattle.receive_history.specs.Rule.{of_link, newest_time, newest_number, numbered, unmet, rule_on, rule_by, rule_answer}
 use Rattle.receive_history.specs.Words.{past_of, next_answer, DeliveryOf, CopyOf, MeetsDelivery, CopyOrDelivered, OtherReceptionsInWords, CopiesInWords, CopyMeetsDelivery, MetOnce, AloneDelivered}
-use Rattle.receive_history.proofs.Memory.{some?, amount, other_other, numbered_true, numbered_is, unmet_delivered, unmet_other, unmet_met, unmet_still, unmet_out, unmet_unknown, unmet_late, unmet_none}
+use Rattle.receive_history.proofs.Memory.{other_other, numbered_true, numbered_is, unmet_delivered, unmet_other, unmet_met, unmet_still, unmet_out, unmet_unknown, unmet_late, unmet_none}
 use Rattle.receive_history.proofs.Rule.{rule_of_next}
 
 -- ---- the delivery that `unmet` finds
@@ -57,8 +56,8 @@ module _ (x : Network) (n : ℕ) where
       first P a (Memᴰ.head e) y z = subst P (sym e) y
       first P a (Memᴰ.tail m) y z = z a m
 
-  unmet_more : (f : Arrival) (a : Reception) (p : List Answered) (d : ℕ) → (unmet x n p ≡ some d → Unmet x n p d)
-      → unmet x n (answered_of f a ∷ p) ≡ some d → Unmet x n (answered_of f a ∷ p) d
+  unmet_more : (f : Arrival) (a : Reception) (p : List Answered) (d : ℕ) → (unmet x n p ≡ Some d → Unmet x n p d)
+      → unmet x n (answered_of f a ∷ p) ≡ Some d → Unmet x n (answered_of f a ∷ p) d
   unmet_more f Delivered p d ih e =
       split (numbered x n f)
       (λ t.
@@ -69,7 +68,7 @@ module _ (x : Network) (n : ℕ) where
         earlier = p;
         stands = refl;
         same = (refl, b.0, b.1);
-        time = ap amount (sym (unmet_delivered x n f p t) ∙ e);
+        time = cc (unmet_delivered x n f p t);
         latest = λ a m. absurd (Memᴰ.not-nil m);
         not_met = λ a m. absurd (Memᴰ.not-nil m);
       })
@@ -80,7 +79,7 @@ module _ (x : Network) (n : ℕ) where
       (ih (sym (unmet_other x n f p t) ∙ e)))
   unmet_more f Copy p d ih e =
       split (numbered (other x) n f)
-      (λ t. absurd (false≢true (ap some? (sym (unmet_met x n f p t) ∙ e))))
+      (λ t. cc (unmet_met x n f p t))
       (λ t.
       passed (answered_of f Copy) p d
       (λ q. let z : 30 ≡ 0 = ap reception_code q.0 in omega arith)
@@ -102,8 +101,8 @@ module _ (x : Network) (n : ℕ) where
       (λ q. let z : 8 ≡ 30 = ap reception_code q.0 in omega arith)
       (ih (sym (unmet_late x n f p) ∙ e))
 
-  pub unmet_found : (p : List Answered) (d : ℕ) → unmet x n p ≡ some d → Unmet x n p d
-  unmet_found [] d e = absurd (false≢true (ap some? (sym (unmet_none x n) ∙ e)))
+  pub unmet_found : (p : List Answered) (d : ℕ) → unmet x n p ≡ Some d → Unmet x n p d
+  unmet_found [] d e = cc (unmet_none x n)
   unmet_found (a ∷ p) d e = unmet_more a.frame a.says p d (unmet_found p d) e
 
   -- a frame that is neither such a delivery nor its copy changes nothing
@@ -118,7 +117,7 @@ module _ (x : Network) (n : ℕ) where
   -- the delivery is the one that `unmet` finds
   pub unmet_is : (later : List Answered) (b : Answered) (earlier : List Answered) → DeliveryOf x n b
       → ((a : Answered) → Memᴰ a later → DeliveryOf x n a → ⊥) → ((a : Answered) → Memᴰ a later → CopyOf (other x) n a → ⊥)
-      → unmet x n (later ++ (b ∷ earlier)) ≡ some b.frame.time
+      → unmet x n (later ++ (b ∷ earlier)) ≡ Some b.frame.time
   unmet_is [] b earlier q u v =
       ap (λ (a : Reception). unmet x n (answered_of b.frame a ∷ earlier)) q.0
       ∙ unmet_delivered x n b.frame earlier (numbered_is x n b.frame q.1 q.2)
@@ -190,17 +189,17 @@ module _ (skew : ℕ) (p : List Answered) (f : Arrival) where
         })
 
 -- ---- of every history
-pub rule_at : (rows : List ℕ) (words : ℕ) (p : List Answered) (f : Arrival) (j : ℕ) → row_found rows words f.link ≡ At j
+pub rule_at : (rows : List ℕ) (words : ℕ) (p : List Answered) (f : Arrival) (j : ℕ) → row_found rows words f.link ≡ Some j
     → rule_answer rows words p f ≡ rule_on (skew_in rows j) (of_link f.link p) f
 unfolding rule_answer
 rule_at rows words p f j e = ap (rule_by rows p f) e
 
-pub rule_nowhere : (rows : List ℕ) (words : ℕ) (p : List Answered) (f : Arrival) → row_found rows words f.link ≡ Nowhere → rule_answer rows words p f ≡ UnknownLink
+pub rule_nowhere : (rows : List ℕ) (words : ℕ) (p : List Answered) (f : Arrival) → row_found rows words f.link ≡ None → rule_answer rows words p f ≡ UnknownLink
 unfolding rule_answer
 rule_nowhere rows words p f e = ap (rule_by rows p f) e
 
 module _ (rows r : List ℕ) (z : Empty rows r) (before : List Arrival) (o : Octets before) (f : Arrival) (h : f.number < number_count)
-    (j : ℕ) (e : row_found rows (length r) f.link ≡ At j) where
+    (j : ℕ) (e : row_found rows (length r) f.link ≡ Some j) where
   by_rule : next_answer rows r before f ≡ rule_on (skew_in rows j) (of_link f.link (past_of rows r before)) f
   by_rule = rule_of_next rows r z before o f h ∙ rule_at rows (length r) (past_of rows r before) f j e
 
@@ -251,8 +250,7 @@ rule_late skew p f h = sym (reception_late skew (newest_time p) (newest_number f
 rule_out : (skew : ℕ) (p : List Answered) (f : Arrival) → newest_time p ≤ f.time → passes (newest_number f.network p) f.number ≡ false → rule_on skew p f ≡ OutOfSequence
 unfolding rule_on
 rule_out skew p f h e =
-    sym (reception_out skew (newest_time p) (newest_number f.network p) (unmet (other f.network) f.number p) f.number f.time h
-    (passes (newest_number f.network p) f.number) refl e)
+    sym (reception_out skew (newest_time p) (newest_number f.network p) (unmet (other f.network) f.number p) f.number f.time h e)
 
 pub others_in_words : OtherReceptionsInWords
 others_in_words rows r z before o f h =

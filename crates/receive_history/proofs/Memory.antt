@@ -1,9 +1,9 @@
 -- What a memory holds: at every point of a history the memory says what the frames that its link received say. Assumes
 -- nothing.
 use Prim.Native.Nat.{ℕ, ◌+◌, ◌*◌, ◌≤◌, ◌<◌}
-use mathlib.Core.Bool.{Bool, true, false, ◌&&◌, false≢true}
+use mathlib.Core.Bool.{true, false, ◌&&◌, false≢true}
 use mathlib.Core.List.{List, [], ◌∷◌}
-use mathlib.Core.Option.{Option, none, some}
+use Rattle.std.specs.Prelude.{Some, None}
 use mathlib.Core.Path.{◌≡◌, refl, sym, ap, ap₂, ◌∙◌, subst}
 use native.Mathlib.Omega.{arith}
 use lib.ListN.{length}
@@ -27,15 +27,6 @@ use Rattle.receive.proofs.Stored.{noted_room, noted_time, noted_number, noted_ot
 use Rattle.receive_history.specs.History.{Answered, answered_of}
 use Rattle.receive_history.specs.Rule.{newest_time, same_network, newest_number, numbered, unmet, rule_on}
 
--- ---- options: whether one has a value, and which
-abbrev pub some? : Option ℕ → Bool
-some? none = false
-some? (some x) = true
-
-abbrev pub amount : Option ℕ → ℕ
-amount none = 0
-amount (some x) = x
-
 -- ---- networks and numbers by their tests
 pub other_other : (x : Network) → other (other x) ≡ x
 other_other A = refl
@@ -44,16 +35,16 @@ other_other B = refl
 network_true : (x y : Network) → same_network x y ≡ true → x ≡ y
 network_true A A e = refl
 network_true B B e = refl
-network_true A B e = absurd (false≢true e)
-network_true B A e = absurd (false≢true e)
+network_true A B e = cc
+network_true B A e = cc
 
 network_same : (x : Network) → same_network x x ≡ true
 network_same A = refl
 network_same B = refl
 
 network_false : (x y : Network) → same_network x y ≡ false → index y ≡ index x → ⊥
-network_false A A e q = false≢true (sym e)
-network_false B B e q = false≢true (sym e)
+network_false A A e q = cc
+network_false B B e q = cc
 network_false A B e q = omega arith
 network_false B A e q = omega arith
 
@@ -78,7 +69,7 @@ module _ (f : Arrival) (a : Reception) (p : List Answered) where
   unfolding newest_time
   newest_time_lem = refl
 
-  newest_same : (x : Network) → same_network f.network x ≡ true → newest_number x (answered_of f a ∷ p) ≡ some f.number
+  newest_same : (x : Network) → same_network f.network x ≡ true → newest_number x (answered_of f a ∷ p) ≡ Some f.number
   unfolding newest_number
   newest_same x e = simp e
 
@@ -87,7 +78,7 @@ module _ (f : Arrival) (a : Reception) (p : List Answered) where
   newest_other x e = simp e
 
 module _ (x : Network) (n : ℕ) (f : Arrival) (p : List Answered) where
-  pub unmet_delivered : numbered x n f ≡ true → unmet x n (answered_of f Delivered ∷ p) ≡ some f.time
+  pub unmet_delivered : numbered x n f ≡ true → unmet x n (answered_of f Delivered ∷ p) ≡ Some f.time
   unfolding unmet
   unmet_delivered e = simp e
 
@@ -95,7 +86,7 @@ module _ (x : Network) (n : ℕ) (f : Arrival) (p : List Answered) where
   unfolding unmet
   unmet_other e = simp e
 
-  pub unmet_met : numbered (other x) n f ≡ true → unmet x n (answered_of f Copy ∷ p) ≡ none
+  pub unmet_met : numbered (other x) n f ≡ true → unmet x n (answered_of f Copy ∷ p) ≡ None
   unfolding unmet
   unmet_met e = simp e
 
@@ -115,7 +106,7 @@ module _ (x : Network) (n : ℕ) (f : Arrival) (p : List Answered) where
   unfolding unmet
   unmet_late = refl
 
-pub unmet_none : (x : Network) (n : ℕ) → unmet x n [] ≡ none
+pub unmet_none : (x : Network) (n : ℕ) → unmet x n [] ≡ None
 unfolding unmet
 unmet_none x n = refl
 
@@ -160,7 +151,7 @@ module _ (r : List ℕ) (j : ℕ) (room : memory_words * j + memory_words ≤ le
       split (same_network f.network x)
       (λ e.
       let s = network_true f.network x e in
-      subst (λ (y : Network). last_number (noted r j f) j y ≡ some f.number) s (noted_number r j room f) ∙ sym (newest_same f a p x e))
+      subst (λ (y : Network). last_number (noted r j f) j y ≡ Some f.number) s (noted_number r j room f) ∙ sym (newest_same f a p x e))
       (λ e. noted_other r j room f x (network_false f.network x e) ∙ q.number x ∙ sym (newest_other f a p x e))
 
   says_delivery : (x : Network) (n : ℕ) → n < number_count → awaiting (noted r j f) j x n ≡ unmet x n p
@@ -224,5 +215,5 @@ module _ (r : List ℕ) (j : ℕ) (room : memory_words * j + memory_words ≤ le
   left_says Delivered e = delivered_says
   left_says Copy e = copy_says
   left_says OutOfSequence e = out_says
-  left_says UnknownLink e = absurd (false≢true e)
-  left_says Late e = absurd (false≢true e)
+  left_says UnknownLink e = cc
+  left_says Late e = cc

@@ -10,8 +10,8 @@ use Rattle.lists.proofs.History.{Simulates, simulated, same_answers, final_answe
 use Rattle.lists.proofs.Lists.{only_none, only_take, only_drop}
 use Rattle.lists.proofs.Tests.{split}
 use Rattle.octets.specs.Numbers.{number_at}
-use Rattle.rows.specs.declared.Found.{Found}
-use Rattle.rows.specs.declared.Found.TheVariants.{At, Nowhere}
+use Rattle.rows.specs.Rows.{Found}
+use Rattle.std.specs.Prelude.{Some, None}
 use Rattle.receive_answer.specs.declared.Arrival.{Arrival}
 use Rattle.receive_answer.specs.declared.Reception.{Reception}
 use Rattle.receive_answer.specs.declared.Reception.TheVariants.{UnknownLink}
@@ -29,15 +29,15 @@ use Rattle.receive_history.specs.Words.{past_of, RuleOfNext}
 use Rattle.receive_history.proofs.Memory.{Represents, empty_says, same_says, answer_says, left_says}
 
 -- ---- rows of other numbers are other rows
-pub rows_apart : (rows : List ℕ) (words l m i j : ℕ) → row_found rows words l ≡ At i → row_found rows words m ≡ At j → (l ≡ m → ⊥) → i ≡ j → ⊥
+pub rows_apart : (rows : List ℕ) (words l m i j : ℕ) → row_found rows words l ≡ Some i → row_found rows words m ≡ Some j → (l ≡ m → ⊥) → i ≡ j → ⊥
 rows_apart rows words l m i j p q d e =
     let a = (row_is_first rows words l i p).1 in
     let b = (row_is_first rows words m j q).1 in
     d (sym a ∙ ap (λ (k : ℕ). number_at 2 rows (skew_row_octets * k)) e ∙ b)
 
 abbrev at : Found → ℕ
-at (At j) = j
-at Nowhere = 0
+at (Some j) = j
+at None = 0
 
 -- ---- one more frame among those that a link received
 module _ (l : ℕ) (f : Arrival) (p : List Answered) where
@@ -53,7 +53,7 @@ module _ (l : ℕ) (f : Arrival) (p : List Answered) where
 -- ---- the memories have so many words, and every memory says what the frames that its link received before say
 pub record Stands (rows : List ℕ) (words : ℕ) (p : List Answered) (r : List ℕ) : Type 0 where
   pub long : length r ≡ words
-  pub each : (l j : ℕ) → row_found rows words l ≡ At j → Represents r j (of_link l p)
+  pub each : (l j : ℕ) → row_found rows words l ≡ Some j → Represents r j (of_link l p)
 
 -- a call is answered by the rule, and the memories stand after the call
 pub record Step (rows : List ℕ) (words : ℕ) (p : List Answered) (f : Arrival) (z : Received) : Type 0 where
@@ -65,7 +65,7 @@ module _ (rows : List ℕ) (words : ℕ) (p : List Answered) (r : List ℕ) (st 
   by_length d e = ap (λ (n : ℕ). row_found rows n f.link) st.long ∙ e
 
   -- a frame on a link with no row
-  unknown_step : row_found rows words f.link ≡ Nowhere → Step rows words p f (received_of UnknownLink r)
+  unknown_step : row_found rows words f.link ≡ None → Step rows words p f (received_of UnknownLink r)
   unfolding rule_answer
   unknown_step e =
       record {
@@ -77,12 +77,12 @@ module _ (rows : List ℕ) (words : ℕ) (p : List Answered) (r : List ℕ) (st 
             };
       }
 
-  module _ (j : ℕ) (e : row_found rows words f.link ≡ At j) where
+  module _ (j : ℕ) (e : row_found rows words f.link ≡ Some j) where
     whole : memory_words * j + memory_words ≤ length r
     whole = let w = memory_whole rows words f.link j e in let q = st.long in omega arith
 
     -- the memory of the frame's own link
-    own : (a : Reception) (l i : ℕ) → row_found rows words l ≡ At i → on_link l f ≡ true → Represents (memory_after r j f a) i (of_link l (answered_of f a ∷ p))
+    own : (a : Reception) (l i : ℕ) → row_found rows words l ≡ Some i → on_link l f ≡ true → Represents (memory_after r j f a) i (of_link l (answered_of f a ∷ p))
     own a l i q on =
         let m : f.link ≡ l = eqb-true _ _ on in
         let k : j ≡ i = ap at (sym e ∙ ap (row_found rows words) m ∙ q) in
@@ -97,7 +97,7 @@ module _ (rows : List ℕ) (words : ℕ) (p : List Answered) (r : List ℕ) (st 
         (subst (λ (x : ℕ). Represents r x (of_link l p)) (sym k) (st.each l i q)))))
 
     -- the memories of other links
-    others : (a : Reception) (l i : ℕ) → row_found rows words l ≡ At i → on_link l f ≡ false → Represents (memory_after r j f a) i (of_link l (answered_of f a ∷ p))
+    others : (a : Reception) (l i : ℕ) → row_found rows words l ≡ Some i → on_link l f ≡ false → Represents (memory_after r j f a) i (of_link l (answered_of f a ∷ p))
     others a l i q off =
         let d = rows_apart rows words l f.link i j q e (λ m. eqb-false _ _ off (sym m)) in
         subst (Represents (memory_after r j f a) i) (sym (other_stays l f p a off))
@@ -122,8 +122,8 @@ module _ (rows : List ℕ) (words : ℕ) (p : List Answered) (r : List ℕ) (st 
   one_step = cases (row_found rows words f.link) refl
     where
       cases : (d : Found) → row_found rows words f.link ≡ d → Step rows words p f (received rows r f)
-      cases Nowhere e = subst (Step rows words p f) (sym (call_nowhere rows r f (by_length Nowhere e))) (unknown_step e)
-      cases (At j) e = subst (Step rows words p f) (sym (call_at rows r f j (by_length (At j) e))) (known_step j e)
+      cases None e = subst (Step rows words p f) (sym (call_nowhere rows r f (by_length None e))) (unknown_step e)
+      cases (Some j) e = subst (Step rows words p f) (sym (call_at rows r f j (by_length (Some j) e))) (known_step j e)
 
 -- ---- a list of calls
 each_frame : (rows : List ℕ) (words : ℕ) (h : List Arrival) → Octets h

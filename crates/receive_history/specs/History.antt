@@ -1,12 +1,10 @@
 -- Histories of the receiving end (document 02, Q-1): lists of frames from empty memories, each frame on the memories
 -- that the frame before left.
-use Rattle.std.specs.Prelude.{ℕ, ◌*◌, ◌<◌, Bool, ◌≡◌, length, take, drop, eqb}
+use Rattle.std.specs.Prelude.{ℕ, ◌*◌, ◌<◌, Bool, ◌≡◌, length, take, drop, eqb, Option, Some, None}
 use mathlib.Core.List.{List, [], Memᴰ}
-use Rattle.std.proofs.Math.Option.{Option, none, some}
 use Rattle.lists.specs.History
 use Rattle.lists.specs.History.{Machine}
-use Rattle.rows.specs.declared.Found.{Found}
-use Rattle.rows.specs.declared.Found.TheVariants.{At, Nowhere}
+use Rattle.rows.specs.Rows.{Found}
 use Rattle.receive_answer.specs.declared.Arrival.{Arrival}
 use Rattle.receive_answer.specs.declared.Reception.{Reception}
 use Rattle.receive.specs.Lent.{skew_in, memory_words, rows_in_use, row_found, word}
@@ -45,15 +43,15 @@ abbrev pub on_link : ℕ → Arrival → Bool
 on_link link f = eqb f.link link
 
 abbrev pub skew_by : List ℕ → Found → Option ℕ
-skew_by rows Nowhere = none
-skew_by rows (At j) = some (skew_in rows j)
+skew_by rows None = None
+skew_by rows (Some j) = Some (skew_in rows j)
 
 abbrev pub skew_of : List ℕ → List ℕ → ℕ → Option ℕ
 skew_of rows r link = skew_by rows (row_found rows (length r) link)
 
 abbrev pub memory_by : List ℕ → Found → List ℕ
-memory_by r Nowhere = []
-memory_by r (At j) = take memory_words (drop (memory_words * j) r)
+memory_by r None = []
+memory_by r (Some j) = take memory_words (drop (memory_words * j) r)
 
 abbrev pub memory_of : List ℕ → List ℕ → ℕ → List ℕ
 memory_of rows r link = memory_by r (row_found rows (length r) link)

@@ -1,12 +1,9 @@
 -- The rule of the receiving end over a history (document 02, Q-1): each frame's answer from the rows and from the
 -- frames before it with their answers. The rule reads no memory.
-use Rattle.std.specs.Prelude.{ℕ, Bool, true, false, ◌&&◌, List, [], ◌∷◌, eqb}
-use Rattle.std.proofs.Math.Option.{Option, none, some}
-use Rattle.std.specs.Prelude.{if◌then◌else◌}
+use Rattle.std.specs.Prelude.{ℕ, Bool, true, false, ◌&&◌, List, [], ◌∷◌, eqb, Option, Some, None, if◌then◌else◌}
 use Rattle.lists.specs.History.{Machine, answers, by_answers}
 use Rattle.lists.specs.Lists.{only}
-use Rattle.rows.specs.declared.Found.{Found}
-use Rattle.rows.specs.declared.Found.TheVariants.{At, Nowhere}
+use Rattle.rows.specs.Rows.{Found}
 use Rattle.receive_answer.specs.declared.Arrival.{Arrival}
 use Rattle.receive_answer.specs.declared.Network.{Network}
 use Rattle.receive_answer.specs.declared.Network.TheVariants.{A, B}
@@ -38,8 +35,8 @@ same_network B A = false
 same_network B B = true
 
 unfoldable pub newest_number : Network → List Answered → Option ℕ
-newest_number x [] = none
-newest_number x (a ∷ past) = if same_network a.frame.network x then some a.frame.number else newest_number x past
+newest_number x [] = None
+newest_number x (a ∷ past) = if same_network a.frame.network x then Some a.frame.number else newest_number x past
 
 -- the time of the latest delivery of number n on a network, if that delivery hasn't met its copy. Going back, the first
 -- frame that matters is either this delivery, or a copy of n on the other network, which met the delivery
@@ -47,14 +44,14 @@ abbrev pub numbered : Network → ℕ → Arrival → Bool
 numbered x n f = same_network f.network x && eqb f.number n
 
 abbrev pub unmet_by : Network → ℕ → Arrival → Reception → Option ℕ → Option ℕ
-unmet_by x n f Delivered d = if numbered x n f then some f.time else d
-unmet_by x n f Copy d = if numbered (other x) n f then none else d
+unmet_by x n f Delivered d = if numbered x n f then Some f.time else d
+unmet_by x n f Copy d = if numbered (other x) n f then None else d
 unmet_by x n f OutOfSequence d = d
 unmet_by x n f UnknownLink d = d
 unmet_by x n f Late d = d
 
 unfoldable pub unmet : Network → ℕ → List Answered → Option ℕ
-unmet x n [] = none
+unmet x n [] = None
 unmet x n (a ∷ past) = unmet_by x n a.frame a.says (unmet x n past)
 
 -- ---- the answer to a frame by the rule, on a link with this SkewMax that received these frames
@@ -63,8 +60,8 @@ rule_on skew past f =
     reception_by skew (newest_time past) (newest_number f.network past) (unmet (other f.network) f.number past) f.number f.time
 
 abbrev pub rule_by : List ℕ → List Answered → Arrival → Found → Reception
-rule_by rows past f Nowhere = UnknownLink
-rule_by rows past f (At j) = rule_on (skew_in rows j) (of_link f.link past) f
+rule_by rows past f None = UnknownLink
+rule_by rows past f (Some j) = rule_on (skew_in rows j) (of_link f.link past) f
 
 -- the answer by the row of the frame's link, with so many words of memories lent
 unfoldable pub rule_answer : List ℕ → ℕ → List Answered → Arrival → Reception

@@ -1,8 +1,7 @@
 -- The rule of the receiving end in words, over every history (document 02, Q-1); proved in proofs/Meeting.antt and Counts.antt.
-use Rattle.std.specs.Prelude.{ℕ, ◌-◌, ◌≤◌, ◌<◌, Bool, true, false, ◌&&◌, ◌↔◌, ◌≡◌, length}
+use Rattle.std.specs.Prelude.{ℕ, ◌-◌, ◌≤◌, ◌<◌, Bool, true, false, ◌&&◌, ◌↔◌, ◌≡◌, length, Some, None}
 use mathlib.Core.List.{List, ◌∷◌, ◌++◌, reverse, Memᴰ}
 use Rattle.lists.specs.Lists.{only}
-use Rattle.rows.specs.declared.Found.TheVariants.{At, Nowhere}
 use Rattle.receive_answer.specs.declared.Arrival.{Arrival}
 use Rattle.receive_answer.specs.declared.Network.{Network}
 use Rattle.receive_answer.specs.declared.Reception.{Reception}
@@ -30,9 +29,9 @@ RuleOfNext =
 -- ---- the rule in words: a frame whose link has no row, a frame that is late, a frame that doesn't pass; the frames
 -- that the link received settle these
 pub record OtherAnswers (rows : List ℕ) (words : ℕ) (past : List Answered) (f : Arrival) (a : Reception) : Type 0 where
-  pub unknown : row_found rows words f.link ≡ Nowhere → a ≡ UnknownLink
-  pub late : (j : ℕ) → row_found rows words f.link ≡ At j → f.time < newest_time (of_link f.link past) → a ≡ Late
-  pub out : (j : ℕ) → row_found rows words f.link ≡ At j → newest_time (of_link f.link past) ≤ f.time
+  pub unknown : row_found rows words f.link ≡ None → a ≡ UnknownLink
+  pub late : (j : ℕ) → row_found rows words f.link ≡ Some j → f.time < newest_time (of_link f.link past) → a ≡ Late
+  pub out : (j : ℕ) → row_found rows words f.link ≡ Some j → newest_time (of_link f.link past) ≤ f.time
       → passes (newest_number f.network (of_link f.link past)) f.number ≡ false → a ≡ OutOfSequence
 
 abbrev pub OtherReceptionsInWords : Type 0
@@ -69,7 +68,7 @@ pub record CopyOrDelivered (skew : ℕ) (past : List Answered) (f : Arrival) (a 
 abbrev pub CopiesInWords : Type 0
 CopiesInWords =
     (rows r : List ℕ) → Empty rows r → (before : List Arrival) → Octets before → (f : Arrival) → f.number < number_count
-    → (j : ℕ) → row_found rows (length r) f.link ≡ At j
+    → (j : ℕ) → row_found rows (length r) f.link ≡ Some j
     → newest_time (of_link f.link (past_of rows r before)) ≤ f.time
     → passes (newest_number f.network (of_link f.link (past_of rows r before))) f.number ≡ true
     → CopyOrDelivered (skew_in rows j) (of_link f.link (past_of rows r before)) f (next_answer rows r before f)
@@ -78,7 +77,7 @@ CopiesInWords =
 abbrev pub CopyMeetsDelivery : Type 0
 CopyMeetsDelivery =
     (rows r : List ℕ) → Empty rows r → (before : List Arrival) → Octets before → (f : Arrival) → f.number < number_count
-    → (j : ℕ) → row_found rows (length r) f.link ≡ At j
+    → (j : ℕ) → row_found rows (length r) f.link ≡ Some j
     → next_answer rows r before f ≡ Copy → MeetsDelivery (skew_in rows j) (of_link f.link (past_of rows r before)) f
 
 -- each delivery meets at most one copy: after a copy of a number there is no second one before that number is delivered
@@ -86,7 +85,7 @@ CopyMeetsDelivery =
 abbrev pub MetOnce : Type 0
 MetOnce =
     (rows r : List ℕ) → Empty rows r → (before : List Arrival) → Octets before → (f : Arrival) → f.number < number_count
-    → (j : ℕ) → row_found rows (length r) f.link ≡ At j
+    → (j : ℕ) → row_found rows (length r) f.link ≡ Some j
     → (later : List Answered) (c : Answered) (earlier : List Answered) → of_link f.link (past_of rows r before) ≡ later ++ (c ∷ earlier)
     → CopyOf f.network f.number c
     → ((a : Answered) → Memᴰ a later → DeliveryOf (other f.network) f.number a → ⊥)
@@ -124,7 +123,7 @@ OneCopyEach =
 abbrev pub AloneDelivered : Type 0
 AloneDelivered =
     (rows r : List ℕ) → Empty rows r → (before : List Arrival) → Octets before → (f : Arrival) → f.number < number_count
-    → (j : ℕ) → row_found rows (length r) f.link ≡ At j
+    → (j : ℕ) → row_found rows (length r) f.link ≡ Some j
     → newest_time (of_link f.link (past_of rows r before)) ≤ f.time
     → passes (newest_number f.network (of_link f.link (past_of rows r before))) f.number ≡ true
     → ((a : Answered) → Memᴰ a (of_link f.link (past_of rows r before)) → DeliveryOf (other f.network) f.number a

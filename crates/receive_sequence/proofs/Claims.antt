@@ -2,7 +2,7 @@
 use Prim.Native.Nat.{ℕ, ◌+◌}
 use mathlib.Core.Bool.{Bool, true, ◌||◌, or-true}
 use mathlib.Core.Logic.{◌⊎◌, inl, inr, ◌↔◌}
-use mathlib.Core.Option.{some}
+use Rattle.std.specs.Prelude.{Some}
 use mathlib.Core.Path.{◌≡◌, refl, sym, ap, ◌∙◌, subst}
 use native.Mathlib.Omega.{arith}
 use lib.Dec.{eqb}
@@ -10,7 +10,7 @@ use borrow.Author.Tests.{eqb-true, eq-eqb}
 use Rattle.lists.proofs.Tests.{split}
 use Rattle.receive_sequence.specs.Sequence.{next, passes}
 use Rattle.receive_sequence.specs.Claims.{NumbersAreOctets, PassTable, PassesExactly}
-use Rattle.receive_sequence.proofs.Passing.{next_adds, first, some_before}
+use Rattle.receive_sequence.proofs.Passing.{next_adds, some_before}
 
 pub numbers_are_octets : NumbersAreOctets
 numbers_are_octets = (refl, refl)
@@ -38,17 +38,17 @@ one_of n a b c = (there, back)
     back (inr (inr p)) = ap (λ (x : Bool). eqb n a || eqb n b || x) (eq-eqb _ _ p) ∙ or-true (eqb n a || eqb n b)
 
 -- what passes after p, whose next numbers are a and b
-steps : (p a b n : ℕ) → next p ≡ a → next a ≡ b → (passes (some p) n ≡ true) ↔ ((n ≡ 0) ⊎ (n ≡ a) ⊎ (n ≡ b))
+steps : (p a b n : ℕ) → next p ≡ a → next a ≡ b → (passes (Some p) n ≡ true) ↔ ((n ≡ 0) ⊎ (n ≡ a) ⊎ (n ≡ b))
 steps p a b n e f =
     subst (λ (x : Bool). (x ≡ true) ↔ ((n ≡ 0) ⊎ (n ≡ a) ⊎ (n ≡ b)))
     (sym (some_before p n ∙ rw (e, f) refl))
     (one_of n 0 a b)
 
 pub passes_exactly : PassesExactly
-unfolding next
+unfolding next passes
 passes_exactly =
     record {
-      first = first;
+      first = λ n. refl;
       below_254 = λ p n h.
           steps p (p + 1) (p + 2) n (sym (next_adds p (λ e. omega arith)))
           (let e : p + 1 + 1 ≡ next (p + 1) = next_adds (p + 1) (λ e. omega arith) in omega arith);

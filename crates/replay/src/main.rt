@@ -3,19 +3,14 @@
 
 mod edge;
 mod log;
+mod rig;
 
-use image_read::ImageAnswer;
-use log::Hand;
+use edge::Status;
+use log::Log;
 use replay_turn::Progress;
+use rig::Rig;
 use std::env::{Env, FillError};
 use std::fs::File;
-
-// Runs that hold the tables of any image.
-const ACCOUNTS: usize = image_layout::MAX_ACCOUNTS as usize;
-
-const ACCOUNT_ROWS: usize = tables::ACCOUNT_OCTETS * ACCOUNTS;
-
-const LINK_ROWS: usize = tables::LINK_OCTETS * image_layout::MAX_LINKS as usize;
 
 // Characters written at once.
 const WRITE_OCTETS: usize = 65536;
@@ -31,98 +26,68 @@ fn open(rt: HostRuntime, path: &str, refusal: &str) -> Option<File> {
     }
 }
 
-// Replays an accepted image's log; returns how that ended.
-fn replay_log(
-    rt: HostRuntime,
-    loaded: ImageAnswer,
-    start: Progress,
-    out: &mut [u8],
-    accounts: &[u8],
-    credits: &mut [u32],
-    lasts: &mut [u64],
-    links: &[u8],
-) -> u8 {
-    let mut file = open(
+// The status of a run in which this file was to be opened.
+fn opened(file: &Option<File>) -> Status {
+    if file.is_some() {
+        Status::Replayed
+    } else {
+        Status::NotOpened
+    }
+}
+
+// Replays the log of a rig whose image was accepted; returns how that ended.
+fn replay_log(rt: HostRuntime, rig: &mut Rig, start: Progress, out: &mut [u8]) -> Status {
+    let file = open(
         rt,
         "rig.frames",
         "replay: rig.frames can't be opened and reads as empty",
     );
-    let opened = file.is_some();
-    let first = Hand {
-        at: 0,
-        filled: 0,
-        whole: !opened,
-        failed: false,
-    };
-    let mut octets = [0u8; log::READ_OCTETS];
-    let settings = loaded.settings;
-    let status = log::run(
-        rt,
-        &mut file,
-        &mut octets,
-        first,
-        start,
-        settings,
-        out,
-        accounts,
-        credits,
-        lasts,
-        links,
-    );
-    if opened {
-        status
-    } else {
-        edge::greatest(edge::NOT_OPENED, status)
+    let least = opened(&file);
+    let mut log = Log::new(file);
+    match log::run(rt, &mut log, rig, start, out) {
+        Ok(()) => least,
+        Err(status) => status.max(least),
     }
 }
 
 // Loads the image that was read and replays the log; returns how that ended.
-fn replay_image(rt: HostRuntime, image: &[u8]) -> u8 {
-    let mut accounts = [0u8; ACCOUNT_ROWS];
-    let mut credits = [0u32; ACCOUNTS];
-    let mut lasts = [0u64; ACCOUNTS];
-    let mut links = [0u8; LINK_ROWS];
+fn replay_image(rt: HostRuntime, image: &[u8]) -> Status {
+    let mut rig = Rig::new();
     let mut out = [0u8; WRITE_OCTETS];
-    let loaded = image_load::load(image, &mut accounts, &mut credits, &mut lasts, &mut links);
-    let start = replay_turn::begin(loaded.code, loaded.offset, &mut out);
-    if !log::print(rt, &out, start.written) {
-        return edge::WRITE_FAILED;
+    let loaded = rig.load(image);
+    let (code, offset) = match loaded {
+        Ok(()) => (codes::SUCCESS, image.len()),
+        Err(error) => (error.fault.into(), error.offset),
+    };
+    let start = replay_turn::begin(code, offset, &mut out);
+    if let Err(status) = log::print(rt, &out, start.written) {
+        return status;
     }
-    let stop = start.stop;
-    if replay_turn::is_over(stop) {
-        return edge::IMAGE_REFUSED;
+    match loaded {
+        Ok(()) => replay_log(rt, &mut rig, start, &mut out),
+        Err(_) => Status::ImageRefused,
     }
-    replay_log(
-        rt,
-        loaded,
-        start,
-        &mut out,
-        &accounts,
-        &mut credits,
-        &mut lasts,
-        &links,
-    )
 }
 
 // Replays the rig; returns how that ended. No more of `rig.cfg` is read than settles its answer.
-fn replay_rig(rt: HostRuntime) -> u8 {
+fn replay_rig(rt: HostRuntime) -> Status {
     let mut image = [0u8; image_layout::IMAGE_PREFIX];
     let mut file = open(
         rt,
         "rig.cfg",
         "replay: rig.cfg can't be opened and reads as empty",
     );
-    if file.is_none() {
-        return edge::greatest(edge::NOT_OPENED, replay_image(rt, &image[0..0]));
+    let least = opened(&file);
+    match edge::read_full(&mut file, &mut image) {
+        Ok(octets) => {
+            drop(file);
+            replay_image(rt, &image[..octets]).max(least)
+        }
+        Err(error) => {
+            edge::fail(rt, "replay: rig.cfg can't be read", error);
+            Status::ReadFailed
+        }
     }
-    let read = edge::read_full(&mut file, &mut image);
-    if let Some(error) = read.failed {
-        edge::fail(rt, "replay: rig.cfg can't be read", error);
-        return edge::READ_FAILED;
-    }
-    drop(file);
-    let n = read.octets;
-    replay_image(rt, &image[0..n])
 }
 
 // Whether the program was given a word.

@@ -7,7 +7,6 @@ use lib.ListN.{length}
 use Rattle.octets.specs.Runs.{octets_at}
 use Rattle.octets.proofs.Parts.{length_part}
 use Rattle.frame.specs.Limits.{largest_frame}
-use Rattle.frame.proofs.Frame.{length_long}
 use Rattle.switch.specs.Call.{call_of}
 use Rattle.replay_log.specs.Claims.{record_of, frame_record}
 use Rattle.replay_log.specs.declared.FrameRecord.{FrameRecord}
@@ -22,7 +21,8 @@ long_frame_skipped g s log r h =
     let os : List ℕ = octets_at r.size log r.start in
     let n : length os ≡ r.size = length_part r.size log r.start in
     let l : largest_frame < length os = omega arith in
-    sym (called_long g s os r.port r.time 2 (sym (length_long (length os) (omega arith) l)) l)
+    let two = called_long g s os r.port r.time l in
+    (two, two)
 
 -- the record is the one that was spelled, so its call is on the frame, the port and the time that were
 pub record_answered : RecordAnswered

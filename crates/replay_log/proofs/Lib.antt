@@ -1,3 +1,4 @@
 pub mod Claims
+pub mod Front
 pub mod Records
 pub mod Settled

@@ -84,3 +84,8 @@ module _ (s : List ℕ) (at : ℕ) (w : Bool) where
       pub next_logged : b ≡ true → r ≡ record_at s at w → r ≡ next_in s at w
       unfolding next_in
       next_logged l g = g ∙ simp (lt-leb (length s) at h, eq-eqb (get_or s at 0) record_tag (sym e ∙ d), sym f ∙ l)
+
+-- the cases of a record by its field, and of what stands at an offset
+pub ruleset field_cases = (field_inside, field_short, field_open, field_frame)
+
+pub ruleset next_cases = (next_end, next_more, next_tag, next_open, next_logged)

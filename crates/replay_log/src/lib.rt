@@ -53,6 +53,7 @@ pub enum Entry {
 }
 
 // What too few octets mean: the log's end within a record, or more to come.
+#[tactic(auto, unfolding(crate::specs::Records::unsettled))]
 fn unsettled(whole: bool) -> Entry
     ensures { result ≡ unsettled whole }
 {
@@ -60,6 +61,7 @@ fn unsettled(whole: bool) -> Entry
 }
 
 // The record at an offset, by the field that stands there.
+#[tactic(auto, using(crate::proofs::Records::field_cases))]
 fn record_at(log: &[u8], at: usize, field: Field, whole: bool) -> Entry
     requires { field ≡ field_at log.now at }
     ensures { result ≡ record_at log.now at whole }
@@ -72,7 +74,7 @@ fn record_at(log: &[u8], at: usize, field: Field, whole: bool) -> Entry
         return unsettled(whole);
     }
     Entry::Frame(FrameRecord {
-        time: octets::u64_at(log, at + fields::TAG_AND_LENGTH),
+        time: octets::number_at(log, at + fields::TAG_AND_LENGTH),
         port: octets::octet_at(log, at + PORT_OFFSET),
         start: at + FRAME_START,
         size: length - TIME_AND_PORT_OCTETS,
@@ -81,6 +83,7 @@ fn record_at(log: &[u8], at: usize, field: Field, whole: bool) -> Entry
 }
 
 // What stands at an offset of the octets at hand; `whole` says that the log has none after them.
+#[tactic(auto, using(crate::proofs::Records::next_cases))]
 pub fn next(log: &[u8], at: usize, whole: bool) -> Entry
     ensures { result ≡ next_in log.now at whole }
 {
@@ -97,18 +100,16 @@ pub fn next(log: &[u8], at: usize, whole: bool) -> Entry
     record_at(log, at, field, whole)
 }
 
-// A part of a log moved to its front, for more to be read after it.
+// A part of a log moved to its front, for more to be read after it; an octet past the end counts as 0.
+#[tactic(auto, using(crate::proofs::Front::front_none))]
 pub fn to_front(log: &mut [u8], at: usize, size: usize)
     ensures { log.new ≡ put log.old 0 (octets_at size log.old at) }
 {
     if log.len() < size {
         return;
     }
-    let start = octets::least(at, log.len());
-    let mut i = 0;
-    while i < size {
-        let x = octets::octet_at(log, start + i);
-        log[i] = x;
-        i += 1;
-    }
+    let start = at.min(log.len());
+    let n = size.min(log.len() - start);
+    log.copy_within(start..start + n, 0);
+    log[n..size].fill(0);
 }

@@ -25,7 +25,7 @@ lines_fit number code credit offset h k =
 
 pub lines_by_verdict : LinesByVerdict
 unfolding frame_line refused_line
-lines_by_verdict number mask credit code offset = (refl, refl, refl, refl, refl)
+lines_by_verdict = ((λ _ _ _ _ _. (refl, refl, refl, refl, refl)), (λ _ _. refl))
 
 pub sheet_lines : SheetLines
 unfolding frame_line word_of digits_of width_of leading

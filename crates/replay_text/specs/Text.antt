@@ -1,5 +1,6 @@
 -- The lines of a replay, as characters (document 01, "The replay program" and case 14 of its bench sheet).
-use Rattle.std.specs.Prelude.{ℕ, List, [], ◌∷◌, ◌++◌}
+use Rattle.std.specs.Prelude
+use Rattle.std.specs.Prelude.{ℕ, List, [], ◌∷◌, ◌++◌, Some, None}
 use Rattle.std.proofs.Math.Option.{Option, none, some}
 use Rattle.switch_verdict.specs.Verdict.{Report}
 use Rattle.replay_words.specs.Words.{word_of}
@@ -13,6 +14,11 @@ line_end = 10
 
 abbrev pub dash : ℕ
 dash = 45
+
+-- a credit that the code has or lacks
+abbrev pub credit_of : Prelude.Option ℕ → Option ℕ
+credit_of None = none
+credit_of (Some c) = some c
 
 -- the credit reported, which codes 0, 8 and 9 have, and the line's end
 abbrev pub credit_word : Option ℕ → List ℕ

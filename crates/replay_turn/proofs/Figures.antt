@@ -12,8 +12,7 @@ use Rattle.octets.specs.Runs.{octets_at, put}
 use Rattle.frame.specs.Frame.{length_code}
 use Rattle.filter.specs.Filter.{frame_code, routed}
 use Rattle.tables.specs.Rows.{Config}
-use Rattle.switch_verdict.specs.Verdict.{Report, reported}
-use Rattle.switch_verdict.specs.declared.Verdict.TheVariants.{Refused}
+use Rattle.switch_verdict.specs.Verdict.{Report, refused}
 use Rattle.switch.specs.Call.{State, Call, call_of, After, after_of, called}
 use Rattle.switch.specs.History.{call_answers}
 use Rattle.replay_words.specs.Digits.{digits_of, width_of}
@@ -32,8 +31,11 @@ use Rattle.replay_turn.specs.Turn.{stopped, with_text, most_frames, stretch}
 use Rattle.replay_turn.specs.Figures.{empty_frames, empty_text, TurnFigures, StopFigures}
 use Rattle.replay_turn.proofs.Turning.{stretch_by_lem, stretch_frame}
 
+abbrev one : Report
+one = refused 1
+
 -- a frame of no octets is answered 1 on any tables, and changes nothing
-empty_called : (g : Config) (t : State) (port time : ℕ) → called g t (call_of [] port time) ≡ after_of (reported (Refused 1)) t
+empty_called : (g : Config) (t : State) (port time : ℕ) → called g t (call_of [] port time) ≡ after_of one t
 unfolding called routed frame_code length_code
 empty_called g t port time = refl
 
@@ -43,9 +45,6 @@ empty_calls = call_of [] 1 5 ∷ call_of [] 1 6 ∷ []
 empty_logged : (logged_from empty_frames 0 ≡ logged_of empty_calls false) × (logged_from (empty_frames ++ (17 ∷ [])) 0 ≡ logged_of empty_calls true)
 unfolding logged_up_to octets_at next_in record_at frame_record_at unsettled number_at
 empty_logged = (refl, refl)
-
-abbrev one : Report
-one = reported (Refused 1)
 
 empty_answers : (g : Config) (t : State) → call_answers g t empty_calls ≡ one ∷ one ∷ []
 unfolding answers

@@ -1,22 +1,15 @@
 -- Laws of what is kept between turns. Assumes nothing.
-use Prim.Native.Nat.{ℕ, ◌+◌, ◌-◌, ◌≤◌, min}
+use Prim.Native.Nat.{ℕ, ◌+◌, ◌-◌, ◌≤◌}
 use mathlib.Core.List.{List, ◌++◌}
-use mathlib.Core.Path.{◌≡◌, sym, ap, ap₂, ◌∙◌}
+use mathlib.Core.Path.{◌≡◌, sym, ap, ◌∙◌}
 use native.Mathlib.Omega.{arith}
 use lib.ListN.{length, take, drop}
 use lib.Seq.{take_at, take-add, length-take-le, drop-append_seam}
 use Rattle.octets.specs.Runs.{octets_at, put}
 use Rattle.octets.proofs.Parts.{length_part, part_take}
 use Rattle.octets.proofs.Runs.{put_fits}
-use Rattle.replay_turn.specs.Parts.{kept_of, rest_octets, kept}
+use Rattle.replay_turn.specs.Parts.{rest_octets}
 use Rattle.replay_turn.specs.Claims.{RestKept}
-
--- by the clamped offsets that the code takes
-pub kept_is : (s d : List ℕ) (at filled end most rest : ℕ) → end ≡ min filled (length s) → most ≡ min at end → rest ≡ end - most
-    → d ≡ put s 0 (octets_at rest s at) → kept_of rest d ≡ kept s at filled
-kept_is s d at filled end most rest a b c e =
-    let q : rest ≡ rest_octets s at filled = omega arith in
-    ap₂ kept_of q (e ∙ ap (λ (n : ℕ). put s 0 (octets_at n s at)) q)
 
 drop_take : (n at : ℕ) (s : List ℕ) → at ≤ length s → drop at (take (at + n) s) ≡ take n (drop at s)
 drop_take n at s h =

@@ -1,71 +1,28 @@
 -- Laws of a turn, one for each place where it ends, and of its start. Assumes nothing.
-use Prim.Native.Nat.{ℕ, suc, ◌+◌, ◌*◌, ◌-◌, ◌≤◌, ◌<◌}
+use Prim.Native.Nat.{ℕ, suc, ◌+◌, ◌*◌, ◌-◌, ◌^◌, ◌≤◌, ◌<◌}
 use mathlib.Core.Bool.{Bool}
 use mathlib.Core.List.{List, [], ◌++◌, append_assoc}
 use mathlib.Core.Path.{◌≡◌, refl, sym, ap, ap₂, ◌∙◌, subst}
 use native.Mathlib.Omega.{arith}
 use lib.ListN.{length, length-append}
-use borrow.Author.Tests.{eq-eqb, ne_eqb, le-leb, lt-leb}
+use borrow.Author.Tests.{le-leb, lt-leb}
 use Rattle.octets.specs.Runs.{put}
 use Rattle.octets.proofs.Runs.{put_none, put_after, length_written}
 use Rattle.tables.specs.Rows.{Config}
-use Rattle.switch_verdict.specs.Verdict.{Report}
-use Rattle.switch.specs.Call.{State, Call, After, after_of, called}
-use Rattle.replay_words.specs.Words.{Appended, appended_of, next_offset, appended}
+use Rattle.switch.specs.Call.{State, After, called}
+use Rattle.replay_words.specs.Words.{appended_of, next_offset, appended}
 use Rattle.replay_words.proofs.Words.{appended_room, appended_next}
-use Rattle.replay_text.specs.Text.{line_of, refused_line, header_line, cut_line, longest_line}
+use Rattle.replay_text.specs.Text.{line_of, cut_line, longest_line}
 use Rattle.replay_log.specs.Records.{next_in}
 use Rattle.replay_log.specs.declared.FrameRecord.{FrameRecord}
 use Rattle.replay_log.specs.declared.Entry.{Entry}
 use Rattle.replay_log.specs.declared.Entry.TheVariants.{Frame, More, Cut, End}
-use Rattle.replay_answer.specs.Answer.{Replied, record_call, replied_of, replied}
+use Rattle.replay_answer.specs.Answer.{record_call}
 use Rattle.replay_turn.specs.declared.Stop.{Stop}
 use Rattle.replay_turn.specs.declared.Stop.TheVariants.{Octets, Room, Finished}
 use Rattle.replay_turn.specs.declared.Progress.{Progress}
 use Rattle.replay_turn.specs.Turn.{Stretch, stopped, with_text, most_frames, cut_stop, stretch_by, stretch, turned_of, progress_of, turn_of}
-use Rattle.replay_turn.specs.Parts.{Lined, lined_of, lined, opening_text, opening_stop, WithRoom, with_room, stopped_by, opened}
-
--- ---- the start
-module _ (code offset n : ℕ) (d e : List ℕ) where
-  begun : (text : List ℕ) (stop : Stop) → opening_text code offset ≡ text → opening_stop code ≡ stop → appended_of n e ≡ appended d 0 text
-      → with_room (progress_of 0 0 n stop) e ≡ opened code offset d
-  begun text stop p q l =
-      let m : appended_of n e ≡ appended d 0 (opening_text code offset) = l ∙ ap (appended d 0) (sym p) in
-      ap₂ (λ (a : Appended) (v : Stop). with_room (progress_of 0 0 a.next v) a.room) m (sym q)
-
-  pub begun_accepted : code ≡ 0 → appended_of n e ≡ appended d 0 header_line → with_room (progress_of 0 0 n Octets) e ≡ opened code offset d
-  begun_accepted z = begun header_line Octets (simp (eq-eqb code 0 z)) (simp (eq-eqb code 0 z))
-
-  pub begun_refused : (code ≡ 0 → ⊥) → appended_of n e ≡ appended d 0 (refused_line code offset) → with_room (progress_of 0 0 n Finished) e ≡ opened code offset d
-  begun_refused z = begun (refused_line code offset) Finished (simp (ne_eqb code 0 z)) (simp (ne_eqb code 0 z))
-
--- ---- a line
-pub line_put : (g : Config) (t left : State) (w : Report) (d e b c : List ℕ) (at next number : ℕ) (f : Call)
-    → replied_of (after_of w left) c ≡ replied g t b f → appended_of next e ≡ appended d at (line_of number w)
-    → length (line_of number w) ≤ longest_line
-    → (lined_of next e left ≡ lined g t d at number f) × (length (line_of number (called g t f).says) ≤ longest_line)
-line_put g t left w d e b c at next number f p q l =
-    let a : after_of w left ≡ called g t f = ap (λ (x : Replied). x.after) p in
-    let m : w ≡ (called g t f).says = ap (λ (x : After). x.says) a in (
-      ap₂ (λ (x : Appended) (y : State). record { appended = x; state = y }) (q ∙ ap (λ (x : Report). appended d at (line_of number x)) m)
-          (ap (λ (x : After). x.state) a),
-      subst (λ (x : Report). length (line_of number x) ≤ longest_line) m l,
-    )
-
--- ---- what ends a turn
-module _ (d : List ℕ) (at k written : ℕ) where
-  pub stop_more : {e : Entry} → e ≡ More → with_room (progress_of at k written Octets) d ≡ stopped_by d at k written e
-  stop_more q = ap (stopped_by d at k written) (sym q)
-
-  pub stop_cut : {e : Entry} (n : ℕ) (c : List ℕ) → e ≡ Cut → appended_of n c ≡ appended d written cut_line
-      → with_room (progress_of at k n cut_stop) c ≡ stopped_by d at k written e
-  stop_cut n c q l = ap (λ (a : Appended). with_room (progress_of at k a.next cut_stop) a.room) l ∙ ap (stopped_by d at k written) (sym q)
-
-  pub stop_end : {e : Entry} → e ≡ End → with_room (progress_of at k written Finished) d ≡ stopped_by d at k written e
-  stop_end q = ap (stopped_by d at k written) (sym q)
-
-  pub stop_frame : {e : Entry} (r : FrameRecord) → e ≡ Frame r → with_room (progress_of at k written Finished) d ≡ stopped_by d at k written e
-  stop_frame r q = ap (stopped_by d at k written) (sym q)
+use Rattle.replay_turn.specs.Parts.{Lined, lined_of, lined, WithRoom, with_room, stopped_by}
 
 -- ---- a stretch by what stands next
 module _ (n : ℕ) (g : Config) (s : List ℕ) (w : Bool) (at k : ℕ) (t : State) where
@@ -97,8 +54,9 @@ module _ (g : Config) (s : List ℕ) (w : Bool) (d₀ : List ℕ) (at₀ k₀ : 
   abbrev Ends : Progress → List ℕ → State → Type 0
   Ends p c t = (turned_of p c t ≡ turn_of d₀ (stretch most g s w at₀ k₀ t₀)) × (p.written ≤ length c)
 
-  pub along_start : longest_line * most ≤ length d₀ → Along d₀ at₀ k₀ t₀ 0 most
-  along_start h = record { text = []; room = sym (put_none d₀ 0); here = refl; fits = omega arith; same = refl }
+  pub along_start : (left : ℕ) → left ≡ most → longest_line * most ≤ length d₀ → Along d₀ at₀ k₀ t₀ 0 left
+  along_start left e h =
+      record { text = []; room = sym (put_none d₀ 0); here = refl; fits = omega arith; same = ap (λ (n : ℕ). stretch n g s w at₀ k₀ t₀) e }
 
   module _ {d : List ℕ} {at k : ℕ} {t : State} {written left : ℕ} (a : Along d at k t written left) where
     long : length d ≡ length d₀
@@ -165,39 +123,42 @@ module _ (g : Config) (s : List ℕ) (w : Bool) (d₀ : List ℕ) (at₀ k₀ : 
           as_stopped p c _ o
           (ended_here Finished (ap (λ (m : ℕ). stretch m g s w at k t) one_more ∙ stretch_many (left - 1) g s w at k t r (sym q ∙ f) z))
 
-      -- at any other
-      module _ (x : Entry) (r : FrameRecord) (n : ℕ) (e : List ℕ) (state : State) (q : x ≡ next_in s at w) (f : x ≡ Frame r) (l : k < most_frames) where
-        abbrev after : Stretch
-        after = stretch (left - 1) g s w r.next (suc k) (called g t (record_call s r)).state
+      -- at any other, which gets the number `number` and leaves room for `rest` lines
+      module _ (x : Entry) (r : FrameRecord) (q : x ≡ next_in s at w) (f : x ≡ Frame r) (number rest : ℕ) (i : number ≡ k + 1) (l : number < 2 ^ 64)
+          (o : left ≡ rest + 1) where
+        abbrev answered : After
+        answered = called g t (record_call s r)
 
-        frame_on : lined_of n e state ≡ lined g t d written (suc k) (record_call s r)
-            → length (line_of (suc k) (called g t (record_call s r)).says) ≤ longest_line
-            → Along e r.next (suc k) state n (left - 1)
-        frame_on o b =
+        abbrev line : List ℕ
+        line = line_of number answered.says
+
+        abbrev after : Stretch
+        after = stretch rest g s w r.next number answered.state
+
+        goes_on : stretch left g s w at k t ≡ with_text line after
+        goes_on =
+            let z : left ≡ suc rest = omega arith in
+            let y : suc k ≡ number = omega arith in
+            ap (λ (m : ℕ). stretch m g s w at k t) z
+            ∙ stretch_frame rest g s w at k t r (sym q ∙ f) (omega arith)
+            ∙ ap (λ (m : ℕ). with_text (line_of m answered.says) (stretch rest g s w r.next m answered.state)) y
+
+        pub along_frame : (n : ℕ) (e : List ℕ) (state : State) → lined_of n e state ≡ lined g t d written number (record_call s r)
+            → length line ≤ longest_line → Along e r.next number state n rest
+        along_frame n e state p b =
             let h = a.fits in
-            let line : List ℕ = line_of (suc k) (called g t (record_call s r)).says in
-            let put-line : appended_of n e ≡ appended d written line = ap (λ (y : Lined). y.appended) o in
-            let i : written + length line ≤ length d₀ = omega arith in
+            let put-line : appended_of n e ≡ appended d written line = ap (λ (y : Lined). y.appended) p in
+            let j : written + length line ≤ length d₀ = omega arith in
             let m : n ≡ written + length line = appended_next d written line n e put-line (omega (arith, long)) in
             record {
               text = a.text ++ line;
-              room = put_on e line (appended_room d written line n e put-line) i;
+              room = put_on e line (appended_room d written line n e put-line) j;
               here = m ∙ sym (length_on line);
               fits = omega arith;
               same =
-                  ap (λ (st : State). with_text (a.text ++ line) (stretch (left - 1) g s w r.next (suc k) st)) (ap (λ (y : Lined). y.state) o)
+                  ap (λ (st : State). with_text (a.text ++ line) (stretch rest g s w r.next number st)) (ap (λ (y : Lined). y.state) p)
                   ∙ ap (λ (xs : List ℕ). record { text = xs; at = after.at; frames = after.frames; state = after.state; stop = after.stop })
                   (append_assoc a.text line after.text)
-                  ∙ ap (with_text a.text)
-                  (sym (ap (λ (m : ℕ). stretch m g s w at k t) one_more ∙ stretch_frame (left - 1) g s w at k t r (sym q ∙ f) l))
+                  ∙ ap (with_text a.text) (sym goes_on)
                   ∙ a.same;
             }
-
-        pub along_frame : lined_of n e state ≡ lined g t d written (k + 1) (record_call s r)
-            → length (line_of (k + 1) (called g t (record_call s r)).says) ≤ longest_line
-            → Along e r.next (k + 1) state n (left - 1)
-        along_frame =
-            let z : suc k ≡ k + 1 = omega arith in
-            subst (λ (m : ℕ). lined_of n e state ≡ lined g t d written m (record_call s r)
-            → length (line_of m (called g t (record_call s r)).says) ≤ longest_line
-            → Along e r.next m state n (left - 1)) z frame_on

@@ -3,7 +3,7 @@
 #![tactic(auto)]
 
 ghost use Rattle.std.specs.Prelude.{◌≡◌, ◌≤◌, length};
-ghost use Rattle.tables.specs.Rows.{config_for};
+ghost use Rattle.tables.specs.Lent.{config_in};
 ghost use Rattle.switch.specs.Call.{state_of, called};
 ghost use Rattle.replay_text.specs.Text.{line_of, longest_line};
 ghost use Rattle.replay_answer.specs.Answer.{record_call};
@@ -12,7 +12,7 @@ ghost use Rattle.replay_turn.specs.Turn.{turned_of, turned};
 ghost use Rattle.replay_turn.specs.Parts.{with_room, opened, kept_of, kept, lined_of, lined, stopped_by};
 
 use replay_log::{Entry, FrameRecord};
-use tables::Settings;
+use tables::LentTables;
 
 // Why a replay stops where it stands.
 #[derive(Clone, Copy)]
@@ -27,15 +27,12 @@ pub enum Stop {
     CutOff,
 }
 
-// Whether a replay is over.
-pub fn is_over(stop: Stop) -> bool
-    ensures { result ≡ over stop }
-{
-    match stop {
-        Stop::Octets => false,
-        Stop::Room => false,
-        Stop::Finished => true,
-        Stop::CutOff => true,
+impl Stop {
+    // Whether a replay is over.
+    pub fn is_over(self) -> bool
+        ensures { result ≡ over self }
+    {
+        matches!(self, Stop::Finished | Stop::CutOff)
     }
 }
 
@@ -52,19 +49,18 @@ pub struct Progress {
 pub fn begin(code: u8, offset: usize, out: &mut [u8]) -> Progress
     ensures { with_room result out.new ≡ opened code offset out.old }
 {
-    if code == codes::SUCCESS {
-        return Progress {
-            at: 0,
-            frames: 0,
-            written: replay_text::put_header(out, 0),
-            stop: Stop::Octets,
-        };
-    }
+    let (written, stop) = match code {
+        codes::SUCCESS => (replay_text::put_header(out, 0), Stop::Octets),
+        _ => (
+            replay_text::put_refused_image(out, 0, code, offset),
+            Stop::Finished,
+        ),
+    };
     Progress {
         at: 0,
         frames: 0,
-        written: replay_text::put_refused_image(out, 0, code, offset),
-        stop: Stop::Finished,
+        written,
+        stop,
     }
 }
 
@@ -72,8 +68,8 @@ pub fn begin(code: u8, offset: usize, out: &mut [u8]) -> Progress
 pub fn keep_rest(log: &mut [u8], at: usize, filled: usize) -> usize
     ensures { kept_of result log.new ≡ kept log.old at filled }
 {
-    let end = octets::least(filled, log.len());
-    let rest = end - octets::least(at, end);
+    let end = filled.min(log.len());
+    let rest = end - at.min(end);
     replay_log::to_front(log, at, rest);
     rest
 }
@@ -83,63 +79,43 @@ fn put_answer(
     log: &[u8],
     logged: FrameRecord,
     number: u64,
-    settings: Settings,
     buffer: &mut [u8; frame::LARGEST_FRAME],
     out: &mut [u8],
     at: usize,
-    accounts: &[u8],
+    tables: LentTables,
     credits: &mut [u32],
     lasts: &mut [u64],
-    links: &[u8],
 ) -> usize
     ensures line_put { lined_of result out.new (state_of credits.new lasts.new)
         ≡ lined
-        (config_for settings accounts.now links.now)
+        (config_in tables.entry)
         (state_of credits.old lasts.old)
         out.old
         at
         number
         (record_call log.now logged) }
     ensures fits { length (line_of number (called
-        (config_for settings accounts.now links.now)
+        (config_in tables.entry)
         (state_of credits.old lasts.old)
         (record_call log.now logged)).says) ≤ longest_line }
 {
-    let verdict = replay_answer::answer(
-        log, logged, settings, buffer, accounts, credits, lasts, links,
-    );
+    let verdict = replay_answer::answer(log, logged, buffer, tables, credits, lasts);
     replay_text::put_line(out, at, number, verdict)
 }
 
 // Ends a turn at what is no frame: more octets are to be read, or the replay is over, with the last line of a log that is cut.
-fn end_turn(entry: Entry, at: usize, frames: u64, written: usize, out: &mut [u8]) -> Progress
-    ensures { with_room result out.new ≡ stopped_by out.old at frames written entry }
+fn end_turn(entry: Entry, here: Progress, out: &mut [u8]) -> Progress
+    ensures { with_room result out.new ≡ stopped_by out.old here.at here.frames here.written entry }
 {
-    match entry {
-        Entry::More => Progress {
-            at,
-            frames,
-            written,
-            stop: Stop::Octets,
-        },
-        Entry::Cut => Progress {
-            at,
-            frames,
-            written: replay_text::put_cut(out, written),
-            stop: Stop::CutOff,
-        },
-        Entry::End => Progress {
-            at,
-            frames,
-            written,
-            stop: Stop::Finished,
-        },
-        Entry::Frame(_) => Progress {
-            at,
-            frames,
-            written,
-            stop: Stop::Finished,
-        },
+    let (written, stop) = match entry {
+        Entry::More => (here.written, Stop::Octets),
+        Entry::Cut => (replay_text::put_cut(out, here.written), Stop::CutOff),
+        Entry::End | Entry::Frame(_) => (here.written, Stop::Finished),
+    };
+    Progress {
+        written,
+        stop,
+        ..here
     }
 }
 
@@ -150,57 +126,41 @@ pub fn turn(
     log: &[u8],
     whole: bool,
     from: Progress,
-    settings: Settings,
+    tables: LentTables,
     out: &mut [u8],
-    accounts: &[u8],
     credits: &mut [u32],
     lasts: &mut [u64],
-    links: &[u8],
 ) -> Progress
     ensures turned { turned_of result out.new (state_of credits.new lasts.new)
-        ≡ turned
-        (config_for settings accounts.now links.now)
-        log.now
-        whole
-        from
-        out.old
-        (state_of credits.old lasts.old) }
+        ≡ turned (config_in tables.entry) log.now whole from out.old (state_of credits.old lasts.old) }
     ensures written_inside { result.written ≤ length out.new }
 {
     let mut buffer = [0u8; frame::LARGEST_FRAME];
-    let mut left = out.len() / replay_text::LONGEST_LINE;
-    let mut at = from.at;
-    let mut frames = from.frames;
-    let mut written = 0;
-    while 0 < left {
-        let entry = replay_log::next(log, at, whole);
+    let mut here = Progress { written: 0, ..from };
+    for _ in 0..out.len() / replay_text::LONGEST_LINE {
+        let entry = replay_log::next(log, here.at, whole);
         let Entry::Frame(logged) = entry else {
-            return end_turn(entry, at, frames, written, out);
+            return end_turn(entry, here, out);
         };
-        if u64::MAX <= frames {
-            return end_turn(Entry::End, at, frames, written, out);
-        }
-        frames += 1;
-        written = put_answer(
+        let Some(number) = here.frames.checked_add(1) else {
+            return end_turn(Entry::End, here, out);
+        };
+        here.frames = number;
+        here.written = put_answer(
             log,
             logged,
-            frames,
-            settings,
+            number,
             &mut buffer,
             out,
-            written,
-            accounts,
+            here.written,
+            tables,
             credits,
             lasts,
-            links,
         );
-        at = logged.next;
-        left -= 1;
+        here.at = logged.next;
     }
     Progress {
-        at,
-        frames,
-        written,
         stop: Stop::Room,
+        ..here
     }
 }

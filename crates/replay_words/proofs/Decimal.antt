@@ -4,16 +4,18 @@ use mathlib.Core.Path.{◌≡◌, refl, sym, ap, ap₂, ◌∙◌}
 use mathlib.Core.Bool.{Bool}
 use mathlib.Core.List.{List, [], ◌∷◌, ◌++◌, append_assoc}
 use native.Mathlib.Omega.{arith}
-use native.Mathlib.Nat.{div-div-eq-div-mul, pow-succ', pow-suc, pow-zero, div-one, le-div_iff_mul-le, div-lt_iff_lt-mul, div-add-mod', mod-eq_of_lt}
+use native.Mathlib.Nat.{div-div-eq-div-mul, pow-succ', pow-suc, pow-zero, pow-le-pow_right, div-one, le-div_iff_mul-le, div-lt_iff_lt-mul, div-add-mod', mod-eq_of_lt}
 use lib.Dec.{leb}
 use lib.ListN.{length, get_or, take, drop, set, length-append, get_or-append}
 use lib.Seq.{take-suc, set_at, length-take-le, get_or_at}
 use borrow.Author.Tests.{le-leb, lt-leb, leb-true, leb-false}
+use Rattle.std.specs.Prelude.{Option, Some, None, IfNone, IfSome}
+use Rattle.std.specs.Option.{unwrap_or}
 use Rattle.octets.specs.Runs.{put}
 use Rattle.octets.proofs.Runs.{put_fits, put_none}
 use Rattle.lists.proofs.Tests.{split}
 use Rattle.lists.specs.Leading.{leading}
-use Rattle.lists.proofs.Leading.{leading_zero, leading_on, leading_stop, leading_high, leading_before, leading_fails}
+use Rattle.lists.proofs.Leading.{leading_high, leading_before, leading_fails, leading_is}
 use Rattle.replay_words.specs.Digits.{zero_char, digits_of, tens_left, more_digits, width_of, digits_read}
 
 pub length_digits : (w x : ℕ) → length (digits_of w x) ≡ w
@@ -53,23 +55,6 @@ put_front d p x ys h =
     ap (λ (e : List ℕ). set e p x) f
     ∙ set_at (take p d) (get_or d p 0) (ys ++ r) x p (length-take-le p d (omega arith))
     ∙ sym (put_fits d p (x ∷ ys) (omega arith) ∙ ap (λ (m : ℕ). take p d ++ (x ∷ ys) ++ drop m d) (sym n) ∙ simp append_assoc)
-
--- ---- the width, digit by digit
-module _ (x : ℕ) where
-  pub width_start : leading (λ k. leb 10 (tens_left x k)) 0 ≡ 0
-  width_start = leading_zero (λ k. leb 10 (tens_left x k))
-
-  module _ (k r : ℕ) (l : leading (λ k. leb 10 (tens_left x k)) k ≡ k) (e : r ≡ tens_left x k) where
-    pub width_on : 10 ≤ r → leading (λ k. leb 10 (tens_left x k)) (suc k) ≡ suc k
-    width_on h = leading_on (λ k. leb 10 (tens_left x k)) k l (le-leb 10 (tens_left x k) (rw e at h))
-
-    pub width_stop : k < more_digits → r < 10 → suc k ≡ width_of x
-    unfolding width_of
-    width_stop b h = ap suc (sym (leading_stop (λ k. leb 10 (tens_left x k)) k more_digits l (lt-leb 10 (tens_left x k) (rw e at h)) b))
-
-    pub width_full : k ≡ more_digits → suc k ≡ width_of x
-    unfolding width_of
-    width_full b = let f : leading (λ j. leb 10 (tens_left x j)) more_digits ≡ more_digits = rw b at l in ap suc (b ∙ sym f)
 
 -- a number has at most 20 digits, and k + 1 where it is below 10 ^ (k + 1)
 pub width_most : (x : ℕ) → width_of x ≤ suc more_digits
@@ -179,3 +164,21 @@ width_some x = omega arith
 
 pub one_digit : (x : ℕ) → x < 10 → width_of x ≡ 1
 one_digit x h = omega (arith, width_below x 0 (omega arith), width_some x)
+
+-- ---- the width, by the greatest power of ten in the number
+width_log : (x k : ℕ) → 10 ^ k ≤ x → x < 10 * 10 ^ k → k < 20 → k + 1 ≡ width_of x
+unfolding width_of
+width_log x k low high most =
+    let few : leading (λ j. leb 10 (tens_left x j)) more_digits ≡ k =
+    leading_is (λ j. leb 10 (tens_left x j)) k more_digits (omega arith)
+    (λ j l.
+    let m : 10 ^ suc j ≤ 10 ^ k = pow-le-pow_right {n = 10} (omega arith) l in
+    let n : 10 ^ suc j ≡ 10 * 10 ^ j = pow-succ' 10 j in
+    le-leb 10 (tens_left x j) ((le-div_iff_mul-le {k = 10 ^ j} {x = 10} {y = x} (tens_positive j)).1 (omega arith)))
+    (λ _. lt-leb 10 (tens_left x k) ((div-lt_iff_lt-mul {k = 10 ^ k} {x = x} {y = 10} (tens_positive k)).1 high)) in
+    omega arith
+
+pub width_found : (x : ℕ) (o : Option ℕ) → IfNone o (x ≡ 0) → IfSome o (λ k. 10 ^ k ≤ x) → IfSome o (λ k. x < 10 * 10 ^ k) → IfSome o (λ k. k < 20)
+    → (w : ℕ) → w ≡ unwrap_or o 0 → w + 1 ≡ width_of x
+width_found x None none _ _ _ w e = rw e (sym (one_digit x (omega (arith, none))))
+width_found x (Some k) _ low high most w e = rw e (width_log x k low high most)

@@ -3,23 +3,25 @@
 #![tactic(auto)]
 
 ghost use Rattle.std.specs.Prelude.{◌≡◌};
-ghost use Rattle.octets.specs.Runs.{octets_at};
 ghost use Rattle.replay_words.specs.Words.{word_of, appended, appended_of};
 
 mod digits;
 
-// The first `size` octets of a text, appended at an offset.
-pub fn put_text(text: &[u8], size: usize, out: &mut [u8], at: usize) -> usize
-    ensures { appended_of result out.new ≡ appended out.old at (octets_at size text.now 0) }
+// A text appended at an offset.
+#[tactic(auto, using(crate::proofs::Words::text_not, crate::proofs::Words::text_appended))]
+pub fn put_text(text: &[u8], out: &mut [u8], at: usize) -> usize
+    ensures { appended_of result out.new ≡ appended out.old at text.now }
 {
-    octets_write::copy(text, 0, size, out, at);
-    if octets::has_room(out.len(), at, size) {
-        return at + size;
+    if !octets::has_room(out.len(), at, text.len()) {
+        return at;
     }
-    at
+    let end = at + text.len();
+    out[at..end].copy_from_slice(text);
+    end
 }
 
 // A number and the character after it, appended at an offset.
+#[tactic(auto, using(crate::proofs::Words::word_cases))]
 pub fn put_word(line: &mut [u8], at: usize, x: u64, mark: u8) -> usize
     ensures { appended_of result line.new ≡ appended line.old at (word_of x mark) }
 {

@@ -1,8 +1,8 @@
 -- Laws of where rows stand. Assumes nothing.
-use Prim.Native.Nat.{ℕ, ◌+◌, ◌*◌, ◌/◌, ◌^◌, ◌≤◌, ◌<◌, min}
+use Prim.Native.Nat.{ℕ, ◌+◌, ◌*◌, ◌/◌, ◌≤◌, ◌<◌, min}
 use mathlib.Core.List.{List}
 use mathlib.Core.Path.{◌≡◌, sym, ap, ◌∙◌}
-use native.Mathlib.Nat.{mul-le-mul, mul-le-mul_left, add_assoc, min-le_right, div-mul-le_self, mul_comm}
+use native.Mathlib.Nat.{mul-le-mul_left, add_assoc, min-le_right, div-mul-le_self, mul_comm}
 use native.Mathlib.Omega.{arith}
 use lib.ListN.{length, get_or}
 use Rattle.octets.specs.Numbers.{number_at}
@@ -32,11 +32,3 @@ module _ (s : List ℕ) (first x at : ℕ) (e : at ≡ min first (length s) + x)
 
   pub number_near : (w : ℕ) → number_at w s at ≡ number_at w s (first + x)
   number_near w = number_shift w s s at (first + x) (λ k l. near k)
-
--- the product of a distance in one octet and an index in two
-pub small_step : (x y : ℕ) → x < 2 ^ 8 → y < 2 ^ 16 → x * y < 2 ^ 24
-small_step x y h k =
-    let hx : x ≤ 255 = omega arith in
-    let hy : y ≤ 65535 = omega arith in
-    let p : x * y ≤ 255 * 65535 = mul-le-mul hx hy in
-    omega arith

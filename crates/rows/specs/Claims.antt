@@ -1,8 +1,7 @@
 -- Rows in figures (document 01, "Accounts and links" and "Codes, in order of checking"; document 02, Q-1). Proved in
 -- proofs/Claims.antt.
-use Rattle.std.specs.Prelude.{[], ◌∷◌, map, ◌≡◌}
+use Rattle.std.specs.Prelude.{[], ◌∷◌, map, ◌≡◌, Some, None}
 use Rattle.rows.specs.Rows.{table_of, in_use, found_in}
-use Rattle.rows.specs.declared.Found.TheVariants.{At, Nowhere}
 
 -- rows in use: two rows of 13 octets and the counts 0 to 3; a row that is lent in part is not in use
 abbrev pub RowsInUse : Type 0
@@ -12,4 +11,4 @@ RowsInUse = (map (in_use 13 26) (0 ∷ 1 ∷ 2 ∷ 3 ∷ []) ≡ 0 ∷ 1 ∷ 2 �
 abbrev pub FirstRowCounts : Type 0
 FirstRowCounts =
     map (found_in (table_of 3 (1 ∷ 2 ∷ 3 ∷ 4 ∷ 5 ∷ 6 ∷ 1 ∷ 2 ∷ 7 ∷ [])) 3) (258 ∷ 1029 ∷ 515 ∷ [])
-    ≡ At 0 ∷ At 1 ∷ Nowhere ∷ []
+    ≡ Some 0 ∷ Some 1 ∷ None ∷ []

@@ -1,13 +1,10 @@
 -- Rows at equal distances in a run of octets: where a row stands, and the first row in use that has a number. The rows of
 -- accounts and links (document 01, "The configuration image") and those of a receiving end (document 02, Q-1) are such rows.
-use Rattle.std.specs.Prelude.{ℕ, ◌+◌, ◌*◌, ◌/◌, min, Bool, not, List, ltb, eqb}
+use Rattle.std.specs.Prelude.{ℕ, ◌+◌, ◌*◌, ◌/◌, min, Bool, not, List, ltb, eqb, Option, Some, None}
 use Rattle.std.specs.Prelude.{if◌then◌else◌}
 use Rattle.lists.specs.Leading.{leading}
 use Rattle.octets.specs.Numbers.{number_at}
 use Rattle.octets.specs.Runs.{octets_at}
-use Rattle.rows.specs.declared.Found.{Found}
-use Rattle.rows.specs.declared.Found.TheVariants.{At, Nowhere}
-use Rattle.rows.specs.declared.Spacing.{Spacing}
 
 -- the octets that the rows stand in, the offset of the first row, and the distance from one row to the next: in a table
 -- rows touch, in an image a field's tag and length stand between two rows
@@ -16,11 +13,8 @@ pub record Rows : Type 0 where
   pub first : ℕ
   pub step : ℕ
 
-abbrev pub spacing : ℕ → ℕ → Spacing
-spacing first step = record { first = first; step = step }
-
-abbrev pub rows_by : List ℕ → Spacing → Rows
-rows_by s p = record { octets = s; first = p.first; step = p.step }
+abbrev pub spaced : List ℕ → ℕ → ℕ → Rows
+spaced s first step = record { octets = s; first = first; step = step }
 
 -- rows of w octets that touch
 abbrev pub table_of : ℕ → List ℕ → Rows
@@ -53,5 +47,8 @@ other_number r x i = not (eqb (row_number r i) x)
 abbrev pub row_of : Rows → ℕ → ℕ → ℕ
 row_of r n x = leading (other_number r x) n
 
+abbrev pub Found : Type 0
+Found = Option ℕ
+
 unfoldable pub found_in : Rows → ℕ → ℕ → Found
-found_in r n x = if ltb (row_of r n x) n then At (row_of r n x) else Nowhere
+found_in r n x = if ltb (row_of r n x) n then Some (row_of r n x) else None

@@ -1,62 +1,33 @@
 -- Laws of the frame call, case by case as the code goes through the call. Assumes nothing.
-use Prim.Native.Nat.{ℕ, ◌+◌, ◌-◌, ◌*◌, ◌/◌, ◌≤◌, ◌<◌}
-use mathlib.Core.Bool.{Bool, true, false, ◌&&◌}
+use Prim.Native.Nat.{ℕ, ◌≤◌}
+use mathlib.Core.Bool.{true, false, ◌&&◌}
 use mathlib.Core.List.{List}
 use mathlib.Core.Path.{◌≡◌, refl, sym, ap, ◌∙◌}
-use native.Mathlib.Nat.{zero-add, mul_comm, div-mul-le_self}
-use native.Mathlib.Omega.{arith}
-use lib.ListN.{length, get_or, set, take, drop}
+use lib.ListN.{length, set}
 use lib.Seq.{set-get_or}
 use lib.Dec.{eqb}
 use borrow.Author.Tests.{eq-eqb, ne_eqb, eqb-true, eqb-false}
+use Rattle.codes.specs.Refused.{number_of}
+use Rattle.codes.specs.declared.Refusal.{Refusal}
 use Rattle.lists.proofs.Tests.{split}
 use Rattle.frame.specs.Frame.{length_code, link_number}
-use Rattle.terms.specs.declared.Terms.{Terms}
 use Rattle.terms.specs.Terms.{checked_cost}
-use Rattle.account.specs.Account.{terms_of, account_of, account_sound, capacity_of}
-use Rattle.account.specs.Step.{Stepped, judged_at, policed}
+use Rattle.account.specs.Account.{terms_of, holding, account_sound, sound_capacity}
+use Rattle.account.specs.Step.{Stepped, stepped, step_reported, judged_at, policed}
+use Rattle.account.specs.declared.Outcome.{Outcome}
 use Rattle.account.specs.declared.Account.{Account}
-use Rattle.account.proofs.Methods.{none_unsound, some_sound, some_capacity}
-use Rattle.account.proofs.Step.{police_judged}
-use Rattle.tables.specs.Rows.{Config, account_octets, terms_at, found}
+use Rattle.account.proofs.Methods.{none_unsound, none_number, some_sound, some_capacity}
+use Rattle.account.proofs.Step.{numbered_above, police_judged}
+use Rattle.tables.specs.Rows.{Config, found}
 use Rattle.tables_rules.specs.Rules.{link_sound}
-use Rattle.rows.specs.declared.Found.{Found}
+use Rattle.rows.specs.Rows.{Found}
 use Rattle.tables.specs.declared.Link.{Link}
-use Rattle.tables.proofs.Rows.{terms_within}
 use Rattle.tables_rules.proofs.Rules.{account_past}
-use Rattle.filter.specs.declared.Route.{Route}
-use Rattle.filter.specs.declared.Route.TheVariants.{Stopped, OnLink}
+use Rattle.std.specs.Prelude.{Ok, Err}
 use Rattle.switch_verdict.specs.Verdict.{Report, with_mask}
 use Rattle.filter.specs.Filter.{frame_code, port_code, route_to, routed}
-use Rattle.switch.specs.Call.{State, state_of, Call, After, in_use_by, accounts_in_use, account_held, Decided, kept, step_on, decided, stored, refused_with, settled, called}
+use Rattle.switch.specs.Call.{State, state_of, Call, After, after_of, accounts_in_use, account_held, Decided, kept, step_on, decided, stored, refused_with, by_link, settled, called}
 use Rattle.filter.proofs.Filter.{frame_zero, route_stopped, route_row}
-
--- an account in use is below the lengths of both runs, and its row is lent whole
-module _ (n a c t u i : ℕ) (e : u ≡ in_use_by n a c t) (h : i < u) where
-  pub used_credit : i < c
-  unfolding in_use_by
-  used_credit = omega arith
-
-  pub used_last : i < t
-  unfolding in_use_by
-  used_last = omega arith
-
-  pub used_row : account_octets * i + account_octets ≤ a
-  unfolding in_use_by
-  used_row =
-      let d : account_octets * (a / account_octets) ≤ a = rw (mul_comm account_octets (a / account_octets)) (div-mul-le_self a account_octets) in
-      omega arith
-
--- an account whose values are read from the part that is its row
-pub held_by : (accounts : List ℕ) (s : State) (i c t : ℕ) (p : Terms)
-    → p ≡ terms_at (take (account_octets * i + account_octets - account_octets * i) (drop (account_octets * i) accounts)) 0
-    → c ≡ get_or s.credits i 0 → t ≡ get_or s.lasts i 0 → account_of p c t ≡ account_held accounts s i
-unfolding account_held
-held_by accounts s i c t p f q r =
-    let at : ℕ = account_octets * i in
-    let row : p ≡ terms_at accounts (0 + at) =
-    f ∙ terms_within accounts at (at + account_octets - at) (omega arith) ∙ ap (terms_at accounts) (sym (zero-add at)) in
-    λ k. account_of (row k) (q k) (r k)
 
 -- storing again what an account holds changes nothing
 pub held_again : (accounts : List ℕ) (s : State) (i : ℕ)
@@ -65,29 +36,24 @@ unfolding account_held
 held_again accounts s i = λ k. state_of (set-get_or s.credits i 0 k) (set-get_or s.lasts i 0 k)
 
 -- ---- what is decided
-module _ (l : Link) (used : ℕ) (a : Account) (n port t : ℕ) (r : Bool) (e : r ≡ link_sound l used a.terms.smax) where
-  pub decided_link : r ≡ false → (d : Decided) → d ≡ kept 10 a → d ≡ decided l used a n port t
+module _ (l : Link) (used : ℕ) (a : Account) (n port t : ℕ) (e : true ≡ link_sound l used a.terms.smax) where
+  pub decided_account : (x : Refusal) → Err x ≡ sound_capacity a → kept (number_of x) a ≡ decided l used a n port t
   unfolding decided
-  decided_link h d q = q ∙ simp (← e, h)
+  decided_account x f = simp (← e, none_unsound a x f, none_number a x f)
 
-  module _ (h : r ≡ true) (c : ℕ) (f : c ≡ capacity_of a) where
-    pub decided_account : c ≡ 0 → (d : Decided) → d ≡ kept 10 a → d ≡ decided l used a n port t
+  module _ (c : ℕ) (f : Ok c ≡ sound_capacity a) where
+    pub decided_port : (x : Refusal) → number_of x ≡ port_code l n port → kept (number_of x) a ≡ decided l used a n port t
     unfolding decided
-    decided_account z d q = q ∙ simp (← e, h, none_unsound a c f z)
+    decided_port x p = simp (← e, some_sound a c f, p, ne_eqb (port_code l n port) 0 (rw p at (numbered_above x)))
 
-    module _ (z : c ≡ 0 → ⊥) (x : ℕ) (p : x ≡ port_code l n port) where
-      pub decided_port : (x ≡ 0 → ⊥) → (d : Decided) → d ≡ kept x a → d ≡ decided l used a n port t
-      unfolding decided
-      decided_port m d q = q ∙ simp (← e, h, some_sound a c f z, p, ne_eqb (port_code l n port) 0 (rw p at m))
-
-      -- the decision with the cost y in hand
-      pub decided_step : x ≡ 0 → length_code n ≡ 0 → (y : ℕ) → y ≡ checked_cost (terms_of a) n → (s : Stepped) → s ≡ judged_at a c y t
-          → (w : Report) → w ≡ with_mask l.mask s.says
-          → ◌≡◌ {A = Decided} (record { says = w; credit = s.account.credit; last = s.account.last }) (decided l used a n port t)
-      unfolding decided
-      decided_step m k y g s u w v =
-          let q : s ≡ policed a n t = u ∙ police_judged a n t k (some_sound a c f z) c y (some_capacity a c f z) g in
-          simp (v, q, ← e, h, some_sound a c f z, eq-eqb (port_code l n port) 0 (sym p ∙ m))
+    -- the decision with the cost y in hand
+    pub decided_step : 0 ≡ port_code l n port → length_code n ≡ 0 → (y : ℕ) → y ≡ checked_cost (terms_of a) n → (s : Stepped) → s ≡ judged_at a c y t
+        → step_on l s ≡ decided l used a n port t
+    unfolding decided
+    decided_step p k y g s u =
+        let v = some_sound a c f in
+        let q : s ≡ policed a n t = u ∙ police_judged a n t k v c y (some_capacity a c f) g in
+        simp (q, ← e, v, eq-eqb (port_code l n port) 0 (sym p))
 
 -- the decision for an unsound link or an unsound account
 pub decided_unsound : (l : Link) (used : ℕ) (a : Account) (n port t : ℕ) → (link_sound l used a.terms.smax && account_sound a) ≡ false → decided l used a n port t ≡ kept 10 a
@@ -118,38 +84,41 @@ module _ (g : Config) (s : State) (f : Call) where
   call_row z = ap (settled g s f) (sym (route_row f.octets g.constant g.links g.count_of_links _ refl z _ refl _ refl))
 
 -- a frame that has a link is of a frame's size
-pub link_sized : (f : List ℕ) (constant : ℕ) (links : List ℕ) (count : ℕ) (r : Route) → r ≡ routed f constant links count
-    → (l : Link) → r ≡ OnLink l → length_code (length f) ≡ 0
-link_sized f constant links count r q l h =
+pub link_sized : (f : List ℕ) (constant : ℕ) (links : List ℕ) (count : ℕ) (l : Link) → Ok l ≡ routed f constant links count → length_code (length f) ≡ 0
+link_sized f constant links count l q =
     split (eqb (frame_code constant f) 0)
     (λ z. frame_zero constant f (eqb-true _ _ z))
     (λ z.
-    let k : Stopped (frame_code constant f) ≡ OnLink l = route_stopped f constant links count _ refl (eqb-false _ _ z) ∙ sym q ∙ h in
-    let y : ◌≡◌ {A = ℕ} 0 1 = cc in absurd (omega arith))
+    let k : Err (frame_code constant f) ≡ Ok l = route_stopped f constant links count _ refl (eqb-false _ _ z) ∙ sym q in
+    absurd (cc k))
 
 -- ---- the call, by its route
-module _ (g : Config) (s : State) (f : Call) (r : Route) (q : r ≡ routed f.octets g.constant g.links g.count_of_links) where
-  by_route : settled g s f r ≡ called g s f
+module _ (g : Config) (s : State) (f : Call) where
+  pub call_stopped : (n : ℕ) → Err n ≡ routed f.octets g.constant g.links g.count_of_links → refused_with n s ≡ called g s f
   unfolding called
-  by_route = ap (settled g s f) q
+  call_stopped n q = ap (settled g s f) q
 
-  pub call_stopped : (n : ℕ) → r ≡ Stopped n → refused_with n s ≡ called g s f
-  call_stopped n h = ap (settled g s f) (sym h) ∙ by_route
+  module _ (l : Link) (q : Ok l ≡ routed f.octets g.constant g.links g.count_of_links) (used : ℕ) (e : used ≡ accounts_in_use g s) where
+    call_linked : by_link g s f l ≡ called g s f
+    unfolding called
+    call_linked = ap (settled g s f) q
 
-  module _ (l : Link) (h : r ≡ OnLink l) (used : ℕ) (e : used ≡ accounts_in_use g s) where
+    module _ (a : Account) (p : a ≡ account_held g.accounts s l.account) where
+      call_decided : (d : Decided) → d ≡ decided l used a (length f.octets) f.port f.time → stored s l.account d ≡ called g s f
+      call_decided d w = ap (stored s l.account) (w ∙ (λ k. decided l (e k) (p k) (length f.octets) f.port f.time)) ∙ call_linked
+
+      -- a refusal stores again what the account holds
+      pub call_kept : (n : ℕ) → kept n a ≡ decided l used a (length f.octets) f.port f.time → refused_with n s ≡ called g s f
+      call_kept n w = ap (refused_with n) (sym (held_again g.accounts s l.account)) ∙ ap (λ (b : Account). stored s l.account (kept n b)) (sym p) ∙ call_decided (kept n a) w
+
+      -- a ruling is stored; the report w has the link's mask
+      pub call_ruled : (o : Outcome) (c t : ℕ) → step_on l (stepped o (holding a c t)) ≡ decided l used a (length f.octets) f.port f.time
+          → (w : Report) → w ≡ with_mask l.mask (step_reported o)
+          → after_of w (state_of (set s.credits l.account c) (set s.lasts l.account t)) ≡ called g s f
+      call_ruled o c t d w v = rw v (call_decided _ d)
+
     pub call_unused : used ≤ l.account → refused_with 10 s ≡ called g s f
     unfolding decided
-    call_unused k =
-        let b : link_sound l (accounts_in_use g s) (account_held g.accounts s l.account).terms.smax ≡ false = sym (account_past l _ _ (rw e at k)) in
-        let d : kept 10 (account_held g.accounts s l.account) ≡ decided l (accounts_in_use g s) (account_held g.accounts s l.account) (length f.octets) f.port f.time = simp b in
-        ap (refused_with 10) (sym (held_again g.accounts s l.account))
-        ∙ ap (stored s l.account) d
-        ∙ ap (settled g s f) (sym h)
-        ∙ by_route
-
-    pub call_stored : (a : Account) (d : Decided) → a ≡ account_held g.accounts s l.account
-        → d ≡ decided l used a (length f.octets) f.port f.time → stored s l.account d ≡ called g s f
-    call_stored a d p w =
-        ap (stored s l.account) (w ∙ (λ k. decided l (e k) (p k) (length f.octets) f.port f.time))
-        ∙ ap (settled g s f) (sym h)
-        ∙ by_route
+    call_unused h =
+        let a : Account = account_held g.accounts s l.account in
+        call_kept a refl 10 (simp (sym (account_past l used a.terms.smax h)))

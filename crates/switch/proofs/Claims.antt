@@ -25,8 +25,8 @@ use Rattle.account.proofs.Claims.{step_below_capacity}
 use Rattle.rows.specs.Rows.{found_in}
 use Rattle.tables.specs.Rows.{Config, link_table, link_in, links_in_use, found}
 use Rattle.tables_rules.specs.Rules.{port_count, link_sound}
-use Rattle.rows.specs.declared.Found.{Found}
-use Rattle.rows.specs.declared.Found.TheVariants.{At, Nowhere}
+use Rattle.rows.specs.Rows.{Found}
+use Rattle.std.specs.Prelude.{Some, None}
 use Rattle.tables.specs.declared.Link.{Link}
 use Rattle.rows.proofs.Finding.{first_found}
 use Rattle.tables.proofs.Claims.{links_same}
@@ -90,8 +90,8 @@ module _ (g : Config) (s : State) (f : Call) where
 
   by_call : (P : Found → After → Type 0)
       → ((frame_code_lem ≡ 0 → ⊥) → P row (refused_with frame_code_lem s))
-      → (frame_code_lem ≡ 0 → P Nowhere (refused_with 4 s))
-      → (frame_code_lem ≡ 0 → (j : ℕ) → P (At j) (by_link g s f (link_in (link_table g.links) j)))
+      → (frame_code_lem ≡ 0 → P None (refused_with 4 s))
+      → (frame_code_lem ≡ 0 → (j : ℕ) → P (Some j) (by_link g s f (link_in (link_table g.links) j)))
       → P row (called g s f)
   by_call P stopped unknown over =
       split (eqb frame_code_lem 0)
@@ -99,8 +99,8 @@ module _ (g : Config) (s : State) (f : Call) where
       (λ e. let z = eqb-false _ _ e in subst (P row) (sym (call_refused g s f z)) (stopped z))
     where
       at_row : frame_code_lem ≡ 0 → (d : Found) → P d (on_row g s f d)
-      at_row z Nowhere = unknown z
-      at_row z (At j) = over z j
+      at_row z None = unknown z
+      at_row z (Some j) = over z j
 
 pub call_answers_lem : CallAnswers
 call_answers_lem g s f =
@@ -163,8 +163,8 @@ module _ (g : Config) (s : State) (f : Call) where
       (λ e p h k. skips 10 0 _ _ (ap not e) (port_skips l size f.port _ p 0 (skips 8 0 _ _ (le-ltb _ _ h) (skips 9 0 _ _ (le-ltb _ _ k) none_left))))
 
   row_table : length_code size ≡ 0 → (d : Found) → (on_row g s f d).says.code ≡ first_fit (row_lines g s f d)
-  row_table z Nowhere = takes 4 true [] refl
-  row_table z (At j) = link_table_lem (link_in (link_table g.links) j) (account_held g.accounts s (link_in (link_table g.links) j).account) z
+  row_table z None = takes 4 true [] refl
+  row_table z (Some j) = link_table_lem (link_in (link_table g.links) j) (account_held g.accounts s (link_in (link_table g.links) j).account) z
 
   abbrev code : After → ℕ
   code r = r.says.code
@@ -221,8 +221,8 @@ module _ (used : ℕ) (s : State) (f : Call) (l : Link) (a : Account) where
 
 module _ (g : Config) (s : State) (f : Call) where
   stopped_effects : (c : ℕ) → (c ≡ 0 → ⊥) → c ≤ 4 → (d : Found) → RowEffects g s f d (refused_with c s)
-  stopped_effects c z h Nowhere = (refl, refl, z, h)
-  stopped_effects c z h (At j) =
+  stopped_effects c z h None = (refl, refl, z, h)
+  stopped_effects c z h (Some j) =
       refused_effects _ s f (link_in (link_table g.links) j) (account_held g.accounts s (link_in (link_table g.links) j).account) c (refused_with c s) refl refl z
       (λ e. omega arith) (λ e. omega arith)
 
@@ -263,13 +263,13 @@ pub call_effects : CallEffects
 call_effects g s f =
     by_call g s f (RowEffects g s f)
     (λ z. let k = frame_code_high g.constant f.octets in stopped_effects g s f (frame_code g.constant f.octets) z (omega arith) (found g.links g.count_of_links (link_number f.octets)))
-    (λ _. stopped_effects g s f 4 (λ e. omega arith) (omega arith) Nowhere)
+    (λ _. stopped_effects g s f 4 (λ e. omega arith) (omega arith) None)
     (λ z j. link_effects g s f (link_in (link_table g.links) j) (frame_zero g.constant f.octets z))
 
 -- the state is unchanged after any code but 0 and 9, by the row found
 kept_by : (g : Config) (s : State) (f : Call) (d : Found) (r : After) → RowEffects g s f d r → (r.says.code ≡ 0 → ⊥) → (r.says.code ≡ 9 → ⊥) → r.state ≡ s
-kept_by g s f Nowhere r e z n = e.0
-kept_by g s f (At j) r e z n = e.kept z n
+kept_by g s f None r e z n = e.0
+kept_by g s f (Some j) r e z n = e.kept z n
 
 pub refused_call_keeps : RefusedCallKeeps
 refused_call_keeps g s f = kept_by g s f (found g.links g.count_of_links (link_number f.octets)) (called g s f) (call_effects g s f)
@@ -340,8 +340,8 @@ module _ (g : Config) (s : State) (g' : Config) (s' : State) (e : SameInUse g s 
       ∙ (λ k. (decided (q k) (e.accounts k) (account_held g'.accounts s' (q k).account) (length f.octets) f.port f.time).says)
 
   row_same : (d : Found) → found g.links g.count_of_links number ≡ d → (on_row g s f d).says ≡ (on_row g' s' f d).says
-  row_same Nowhere q = refl
-  row_same (At j) q =
+  row_same None q = refl
+  row_same (Some j) q =
       link_same (link_in (link_table g.links) j) (link_in (link_table g'.links) j)
       (e.rows j (first_found (link_table g.links) (links_in_use g.links g.count_of_links) number j q).0)
 

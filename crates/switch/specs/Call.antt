@@ -1,20 +1,23 @@
 -- The frame call (document 01, "Codes, in order of checking"): the answer, and the credits and last times after the
 -- call, for any tables, counts, frame, port and time whatsoever.
-use Rattle.std.specs.Prelude.{ℕ, ◌/◌, min, not, ◌&&◌, List, length, get_or, set, eqb}
+use Rattle.std.specs.Prelude.{ℕ, ◌/◌, min, not, ◌&&◌, List, length, get_or, set, eqb, Result}
 use Rattle.codes.specs.Codes
 use Rattle.std.specs.Prelude.{if◌then◌else◌}
-use Rattle.account.specs.Account.{account_of, account_sound}
+use Rattle.account.specs.Account.{account_of, holding, account_sound}
 use Rattle.account.specs.Step.{Stepped, policed}
 use Rattle.account.specs.declared.Account.{Account}
 use Rattle.tables.specs.Rows.{Config, account_octets, account_table, account_in}
 use Rattle.tables_rules.specs.Rules.{link_sound}
 use Rattle.tables.specs.declared.Link.{Link}
-use Rattle.switch.specs.declared.Decision.{Decision}
-use Rattle.switch_verdict.specs.declared.Verdict.TheVariants.{Refused}
-use Rattle.switch_verdict.specs.Verdict.{Report, reported, with_mask}
+use Rattle.codes.specs.Refused.{number_of}
+use Rattle.codes.specs.declared.Refusal.{Refusal}
+use Rattle.account.specs.Step.{stepped}
+use Rattle.account.specs.declared.Ruling.{Ruling}
+use Rattle.switch_verdict.specs.declared.Verdict.{Verdict}
+use Rattle.switch_verdict.specs.Verdict.{Report, reported, refused, with_mask}
 use Rattle.filter.specs.Filter.{port_code, routed}
-use Rattle.filter.specs.declared.Route.{Route}
-use Rattle.filter.specs.declared.Route.TheVariants.{Stopped, OnLink}
+use Rattle.filter.specs.Filter.{Route}
+use Rattle.std.specs.Prelude.{Ok, Err}
 
 -- the state: what a call may change
 pub record State : Type 0 where
@@ -58,15 +61,17 @@ pub record Decided : Type 0 where
   pub credit : ℕ
   pub last : ℕ
 
-abbrev pub decision_of : Decision → Decided
-decision_of d = record { says = reported d.verdict; credit = d.credit; last = d.last }
-
 -- a refusal keeps the account's credit and last time; the policing step gives new ones
 abbrev pub kept : ℕ → Account → Decided
-kept code a = record { says = reported (Refused code); credit = a.credit; last = a.last }
+kept code a = record { says = refused code; credit = a.credit; last = a.last }
 
 abbrev pub step_on : Link → Stepped → Decided
 step_on l q = record { says = with_mask l.mask q.says; credit = q.account.credit; last = q.account.last }
+
+-- the decision from a ruling on the account or a refusal
+abbrev pub decision_of : Link → Account → Result Ruling Refusal → Decided
+decision_of l a (Ok r) = step_on l (stepped r.outcome (holding a r.credit r.last))
+decision_of l a (Err r) = kept (number_of r) a
 
 -- the decision: 10 where the link's row or the account breaks a rule or the credit is above the capacity; then 5, 6 and
 -- 7; then the step
@@ -83,7 +88,7 @@ stored s a d = after_of d.says (state_of (set s.credits a d.credit) (set s.lasts
 -- ---- the call
 
 abbrev pub refused_with : ℕ → State → After
-refused_with code s = after_of (reported (Refused code)) s
+refused_with code s = after_of (refused code) s
 
 -- the call on a link: the link's account decides, and the decision is stored
 abbrev pub by_link : Config → State → Call → Link → After
@@ -93,9 +98,14 @@ by_link g s f l =
 
 -- the call by the route that the filter finds: the code, or the link
 abbrev pub settled : Config → State → Call → Route → After
-settled g s f (Stopped code) = refused_with code s
-settled g s f (OnLink l) = by_link g s f l
+settled g s f (Err code) = refused_with code s
+settled g s f (Ok l) = by_link g s f l
 
 -- the call: the filter, then the link's account
 unfoldable pub called : Config → State → Call → After
 called g s f = settled g s f (routed f.octets g.constant g.links g.count_of_links)
+
+-- what a call reports and leaves, from a verdict or a refusal
+abbrev pub call_after : Result Verdict Refusal → State → After
+call_after (Ok v) s = after_of (reported v) s
+call_after (Err r) s = refused_with (number_of r) s

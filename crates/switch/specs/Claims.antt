@@ -4,7 +4,7 @@ use Rattle.std.specs.Prelude.{ℕ, ◌+◌, ◌*◌, ◌≤◌, ◌<◌, List, �
 use Rattle.frame.specs.Frame.{length_code, link_number}
 use Rattle.tables.specs.Rows.{Config, link_table, link_in, links_in_use, found}
 use Rattle.tables_rules.specs.Rules.{port_count}
-use Rattle.rows.specs.declared.Found.TheVariants.{At}
+use Rattle.std.specs.Prelude.{Some}
 use Rattle.filter.specs.Filter.{frame_code}
 use Rattle.switch_verdict.specs.Verdict.{Report}
 use Rattle.switch.specs.Call.{State, state_of, Call, call_of, after_of, accounts_in_use, account_held}
@@ -36,7 +36,7 @@ InUseExactly =
 abbrev pub AtTheCount : Type 0
 AtTheCount =
     (g : Config) (s : State) (f : Call) (j : ℕ) → frame_code g.constant f.octets ≡ 0
-    → found g.links g.count_of_links (link_number f.octets) ≡ At j → g.count_of_accounts ≤ (link_in (link_table g.links) j).account
+    → found g.links g.count_of_links (link_number f.octets) ≡ Some j → g.count_of_accounts ≤ (link_in (link_table g.links) j).account
     → called g s f ≡ refused_with 10 s
 
 -- a port that no switch has gets no further than 5

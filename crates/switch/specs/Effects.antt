@@ -7,8 +7,8 @@ use Rattle.terms.specs.Terms.{capacity, cost}
 use Rattle.account.specs.Account.{terms_of, credit_at}
 use Rattle.account.specs.declared.Account.{Account}
 use Rattle.tables.specs.Rows.{Config, link_table, link_in, found}
-use Rattle.rows.specs.declared.Found.{Found}
-use Rattle.rows.specs.declared.Found.TheVariants.{At, Nowhere}
+use Rattle.rows.specs.Rows.{Found}
+use Rattle.std.specs.Prelude.{Some, None}
 use Rattle.tables.specs.declared.Link.{Link}
 use Rattle.switch_verdict.specs.Verdict.{report}
 use Rattle.switch.specs.Call.{State, state_of, Call, After, accounts_in_use, account_held, decided, called}
@@ -40,8 +40,8 @@ pub record Effects (used : ℕ) (s : State) (f : Call) (l : Link) (a : Account) 
 -- the link is that of the first row in use with the frame's number; where there is no such row the call answers 1, 2, 3
 -- or 4
 abbrev pub RowEffects : Config → State → Call → Found → After → Type 0
-RowEffects g s f Nowhere r = (r.state ≡ s) × (r.says ≡ report r.says.code none none) × ((r.says.code ≡ 0) → ⊥) × (r.says.code ≤ 4)
-RowEffects g s f (At j) r =
+RowEffects g s f None r = (r.state ≡ s) × (r.says ≡ report r.says.code none none) × ((r.says.code ≡ 0) → ⊥) × (r.says.code ≤ 4)
+RowEffects g s f (Some j) r =
     Effects (accounts_in_use g s) s f (link_in (link_table g.links) j)
     (account_held g.accounts s (link_in (link_table g.links) j).account) r
 

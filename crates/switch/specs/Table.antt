@@ -9,8 +9,8 @@ use Rattle.account.specs.Account.{terms_of, account_sound, credit_at}
 use Rattle.account.specs.declared.Account.{Account}
 use Rattle.tables.specs.Rows.{Config, link_table, link_in, found}
 use Rattle.tables_rules.specs.Rules.{link_sound}
-use Rattle.rows.specs.declared.Found.{Found}
-use Rattle.rows.specs.declared.Found.TheVariants.{At, Nowhere}
+use Rattle.rows.specs.Rows.{Found}
+use Rattle.std.specs.Prelude.{Some, None}
 use Rattle.tables.specs.declared.Link.{Link}
 use Rattle.switch.specs.Call.{State, Call, accounts_in_use, account_held, called}
 
@@ -28,8 +28,8 @@ link_lines g s f l a =
 
 -- the lines by the row found; 4 alone where no row has the number
 abbrev pub row_lines : Config → State → Call → Found → List Line
-row_lines g s f Nowhere = line 4 true ∷ []
-row_lines g s f (At j) = link_lines g s f (link_in (link_table g.links) j) (account_held g.accounts s (link_in (link_table g.links) j).account)
+row_lines g s f None = line 4 true ∷ []
+row_lines g s f (Some j) = link_lines g s f (link_in (link_table g.links) j) (account_held g.accounts s (link_in (link_table g.links) j).account)
 
 -- the whole table
 abbrev pub code_table : Config → State → Call → List Line

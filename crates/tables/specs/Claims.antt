@@ -2,7 +2,7 @@
 -- number, and of what a call is lent; proved in proofs/Claims.antt.
 use Rattle.std.specs.Prelude.{ℕ, ◌+◌, ◌*◌, ◌≤◌, ◌<◌, List, [], ◌∷◌, ◌++◌, ◌↔◌, ◌≡◌, length}
 use Rattle.octets.specs.Spelled.{Part, part, spelled, Fit}
-use Rattle.rows.specs.declared.Found.TheVariants.{At, Nowhere}
+use Rattle.std.specs.Prelude.{Some, None}
 use Rattle.terms.specs.declared.Terms.{Terms}
 use Rattle.tables.specs.declared.Link.{Link}
 use Rattle.tables.specs.Rows.{account_octets, link_octets, account_table, link_table, account_in, link_in, links_in_use}
@@ -52,7 +52,7 @@ LinksInUseExactly = (links : List ℕ) (count j : ℕ) → (j < links_in_use lin
 -- a row that is found is in use, has the number, and is the first that has the number
 abbrev pub FindsFirst : Type 0
 FindsFirst =
-    (links : List ℕ) (count x i : ℕ) → found links count x ≡ At i
+    (links : List ℕ) (count x i : ℕ) → found links count x ≡ Some i
     → (i < links_in_use links count)
     × ((link_in (link_table links) i).number ≡ x)
     × ((j : ℕ) → j < i → (link_in (link_table links) j).number ≡ x → ⊥)
@@ -60,7 +60,7 @@ FindsFirst =
 -- where no row is found, no row in use has the number
 abbrev pub FindsNone : Type 0
 FindsNone =
-    (links : List ℕ) (count x : ℕ) → found links count x ≡ Nowhere
+    (links : List ℕ) (count x : ℕ) → found links count x ≡ None
     → (j : ℕ) → j < links_in_use links count → (link_in (link_table links) j).number ≡ x → ⊥
 
 -- ---- what a call is lent of tables and settings, each part by its name

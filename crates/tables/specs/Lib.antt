@@ -1,2 +1,5 @@
 pub mod Claims
+pub mod Decoded
+pub mod Laws
+pub mod Lent
 pub mod Rows

@@ -1,15 +1,13 @@
 -- Rows of accounts and links in octets, in the order of the image's data (document 01, "The configuration image", the table), and
 -- the tables that the writer and a frame call are lent.
-use Rattle.std.specs.Prelude.{ℕ, ◌+◌, List, length, get_or}
+use Rattle.std.specs.Prelude.{ℕ, ◌+◌, List, length, get_or, Option}
 use Rattle.octets.specs.Numbers.{number_at}
 use Rattle.rows.specs.Rows.{Rows, table_of, row_offset, in_use, found_in}
-use Rattle.rows.specs.declared.Found.{Found}
-use Rattle.rows.specs.declared.Found.TheVariants.{At, Nowhere}
+use Rattle.rows.specs.Rows.{Found}
+use Rattle.std.specs.Prelude.{Some, None}
 use Rattle.terms.specs.declared.Terms.{Terms}
 use Rattle.tables.specs.declared.Link.{Link}
 use Rattle.tables.specs.declared.Settings.{Settings}
-use Rattle.tables.specs.declared.Lookup.{Lookup}
-use Rattle.tables.specs.declared.Lookup.TheVariants.{Present, Absent}
 
 -- the account whose octets start at an offset: Smax (2), k (1), J (2), mode (1)
 abbrev pub account_octets : ℕ
@@ -58,9 +56,9 @@ abbrev pub found : List ℕ → ℕ → ℕ → Found
 found links count x = found_in (link_table links) (links_in_use links count) x
 
 -- the link of the row found, if a row is found
-abbrev pub lookup_in : List ℕ → Found → Lookup
-lookup_in links (At j) = Present (link_in (link_table links) j)
-lookup_in links Nowhere = Absent
+abbrev pub lookup_in : List ℕ → Found → Option Link
+lookup_in links (Some j) = Some (link_in (link_table links) j)
+lookup_in links None = None
 
 -- the constant field, the two tables and their counts: what an image is written from, and what a frame call is lent
 pub record Config : Type 0 where

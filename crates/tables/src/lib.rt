@@ -2,11 +2,12 @@
 // are decoded here, and a link's number is looked up.
 #![tactic(auto)]
 
-ghost use Rattle.std.specs.Prelude.{◌≡◌, ◌+◌, ◌≤◌, ◌<◌, length, get_or};
-ghost use Rattle.octets.specs.Numbers.{number_at};
+ghost use Rattle.std.specs.Prelude.{◌≡◌, ℕ, List, ◌≤◌};
+ghost use Rattle.std.proofs.Common.{rules};
 ghost use Rattle.tables.specs.Rows.{account_octets, terms_at, link_octets, link_at, found, lookup_in};
+ghost use Rattle.tables.specs.Decoded.{ReadByOctets};
+ghost use Rattle.tables.specs.Laws.{terms_same, link_same};
 
-use rows::Found;
 use terms::Terms;
 
 // Octets of an account row and of a link row.
@@ -34,107 +35,103 @@ pub struct Settings {
     pub links: usize,
 }
 
-// The link with a number, if there is such a link.
+// What an image is written from and what a frame call is lent: the settings, the rows of accounts and the rows of links.
 #[derive(Clone, Copy)]
-pub enum Lookup {
-    Present(Link),
-    Absent,
+pub struct LentTables<'a> {
+    pub settings: Settings,
+    pub accounts: &'a [u8],
+    pub links: &'a [u8],
 }
 
-// One octet, and the numbers of two and four octets, inside a run: read from a part of known length, with no test for
-// each octet.
-fn octet_in(rows: &[u8], at: usize) -> u8
-    requires { at < length rows.now }
-    ensures { result ≡ get_or rows.now at 0 }
-{
-    rows[at]
+// A row of a table: what its octets say.
+pub trait Row: Copy {
+    // The octets of a row.
+    const OCTETS: usize;
+
+    ghost OCTETS: { ℕ };
+
+    // What the octets from an offset on say; an octet past the end counts as 0.
+    ghost decoded: { List ℕ → ℕ → Self };
+
+    // What the first octets of a run say; a missing octet counts as 0.
+    fn of_octets(row: &[u8]) -> Self
+        ensures { result ≡ decoded row.now 0 };
+
+    ghost at_most_a_link: { OCTETS ≤ link_octets };
+
+    ghost read_by_octets: { ReadByOctets OCTETS decoded };
 }
 
-fn u16_in(rows: &[u8], at: usize) -> u16
-    requires { at + 2 ≤ length rows.now }
-    ensures { result ≡ number_at 2 rows.now at }
-{
-    octets::u16_at(&rows[at..at + 2], 0)
-}
+impl Row for Terms {
+    const OCTETS: usize = ACCOUNT_OCTETS;
 
-fn u32_in(rows: &[u8], at: usize) -> u32
-    requires { at + 4 ≤ length rows.now }
-    ensures { result ≡ number_at 4 rows.now at }
-{
-    octets::u32_at(&rows[at..at + 4], 0)
-}
+    ghost OCTETS = { account_octets };
 
-// The account values of a row that lies inside the run.
-fn terms_in(rows: &[u8], at: usize) -> Terms
-    requires { at + account_octets ≤ length rows.now }
-    ensures { result ≡ terms_at rows.now at }
-{
-    Terms {
-        smax: u16_in(rows, at),
-        k: octet_in(rows, at + 2),
-        jitter: u16_in(rows, at + 3),
-        mode: octet_in(rows, at + 5),
+    ghost decoded = { terms_at };
+
+    ghost at_most_a_link = { Prim.search rules };
+
+    ghost read_by_octets = { terms_same };
+
+    #[tactic(auto, unfolding(crate::specs::Rows::terms_at))]
+    fn of_octets(row: &[u8]) -> Terms {
+        Terms {
+            smax: octets::number_at(row, 0),
+            k: octets::octet_at(row, 2),
+            jitter: octets::number_at(row, 3),
+            mode: octets::octet_at(row, 5),
+        }
     }
 }
 
-// The account values of the row at an offset; read directly if complete, otherwise zero-padded.
-pub fn terms_at(rows: &[u8], at: usize) -> Terms
-    ensures { result ≡ terms_at rows.now at }
-{
-    if octets::has_room(rows.len(), at, ACCOUNT_OCTETS) {
-        return terms_in(rows, at);
-    }
-    let mut row = [0u8; ACCOUNT_OCTETS];
-    octets_write::copy(rows, at, ACCOUNT_OCTETS, &mut row, 0);
-    terms_in(&row, 0)
-}
+impl Row for Link {
+    const OCTETS: usize = LINK_OCTETS;
 
-// The link of a row that lies inside the run.
-fn link_in(rows: &[u8], at: usize) -> Link
-    requires { at + link_octets ≤ length rows.now }
-    ensures { result ≡ link_at rows.now at }
-{
-    Link {
-        number: u16_in(rows, at),
-        port: octet_in(rows, at + 2),
-        mask: u32_in(rows, at + 3),
-        smallest: u16_in(rows, at + 7),
-        largest: u16_in(rows, at + 9),
-        account: u16_in(rows, at + 11),
+    ghost OCTETS = { link_octets };
+
+    ghost decoded = { link_at };
+
+    ghost at_most_a_link = { Prim.search rules };
+
+    ghost read_by_octets = { link_same };
+
+    #[tactic(auto, unfolding(crate::specs::Rows::link_at))]
+    fn of_octets(row: &[u8]) -> Link {
+        Link {
+            number: octets::number_at(row, 0),
+            port: octets::octet_at(row, 2),
+            mask: octets::number_at(row, 3),
+            smallest: octets::number_at(row, 7),
+            largest: octets::number_at(row, 9),
+            account: octets::number_at(row, 11),
+        }
     }
 }
 
-// The link of the row at an offset; read directly if complete, otherwise zero-padded.
-pub fn link_at(rows: &[u8], at: usize) -> Link
-    ensures { result ≡ link_at rows.now at }
+// The row at an offset; a missing octet counts as 0.
+pub fn row_at<R: Row>(rows: &[u8], at: usize) -> R
+    ensures { result ≡ R.decoded rows.now at }
 {
-    if octets::has_room(rows.len(), at, LINK_OCTETS) {
-        return link_in(rows, at);
+    if octets::has_room(rows.len(), at, R::OCTETS) {
+        return R::of_octets(&rows[at..at + R::OCTETS]);
     }
-    let mut row = [0u8; LINK_OCTETS];
-    octets_write::copy(rows, at, LINK_OCTETS, &mut row, 0);
-    link_in(&row, 0)
+    R::of_octets(&rows[at.min(rows.len())..])
 }
 
 // The first of the rows in use that has the number. A count larger than the rows lent is read as their number.
-pub fn find(links: &[u8], count: usize, number: u16) -> Found
+pub fn find(links: &[u8], count: usize, number: u16) -> Option<usize>
     ensures { result ≡ found links.now count number }
 {
-    rows::find(
-        links,
-        (LINK_OCTETS - rows::NUMBER_OCTETS) as u8,
-        count,
-        number,
-    )
+    let rest = LINK_OCTETS - rows::NUMBER_OCTETS;
+    rows::find(links, rest as u8, count, number)
 }
 
 // The link of the first row in use that has the number. A row that is found lies inside the run.
-pub fn look_up(links: &[u8], count: usize, number: u16) -> Lookup
+#[tactic(auto, using(crate::proofs::Rows::link_within))]
+pub fn look_up(links: &[u8], count: usize, number: u16) -> Option<Link>
     ensures { result ≡ lookup_in links.now (found links.now count number) }
 {
-    let found = find(links, count, number);
-    match found {
-        Found::Nowhere => Lookup::Absent,
-        Found::At(row) => Lookup::Present(link_in(links, LINK_OCTETS * row)),
-    }
+    let row = find(links, count, number)?;
+    let at = LINK_OCTETS * row;
+    Some(Link::of_octets(&links[at..at + LINK_OCTETS]))
 }

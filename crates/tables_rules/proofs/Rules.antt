@@ -2,66 +2,27 @@
 -- nothing.
 use Prim.Native.Nat.{ℕ, min, ◌+◌, ◌*◌, ◌-◌, ◌/◌, ◌%◌, ◌^◌, ◌≤◌, ◌<◌}
 use mathlib.Core.Bool.{Bool, true, false, ◌&&◌}
-use mathlib.Core.Path.{◌≡◌, sym, ap, ap₂, ◌∙◌}
+use mathlib.Core.List.{List}
+use mathlib.Core.Path.{◌≡◌, refl, sym, ap, ap₂, ◌∙◌}
 use lib.Dec.{ltb, leb, eqb}
-use borrow.Author.Tests.{lt-ltb, le-ltb, ltb-true, ltb-false, leb-true, le-leb, lt-leb, eq-eqb, ne_eqb}
+use borrow.Author.Tests.{le-ltb, ltb-true, ltb-false, leb-true, eq-eqb}
 use Rattle.lists.proofs.Tests.{split, both}
 use Rattle.frame.specs.Limits.{smallest_frame}
 use lib.ListN.{length}
 use Rattle.octets.specs.Numbers.{number_at}
-use Rattle.terms.specs.Terms.{terms_good}
 use Rattle.terms.specs.declared.Terms.{Terms}
-use Rattle.rows.specs.Rows.{Rows}
+use Rattle.rows.specs.Rows.{Rows, spaced}
 use Rattle.rows.proofs.Rows.{number_near}
 use Rattle.tables.specs.Rows.{terms_at, link_at, account_in, link_in}
 use Rattle.tables_rules.specs.Rules.{port_count, ports_sound, sizes_sound, link_sound, account_good, number_rises, link_good}
 use Rattle.tables.specs.declared.Link.{Link}
 use Rattle.tables.proofs.Rows.{terms_near, link_near}
 
--- ---- ports
-module _ (port mask : ℕ) where
-  pub port_high : port_count ≤ port → false ≡ ports_sound port mask
-  unfolding ports_sound
-  port_high h = simp (le-ltb _ _ h)
-
-  module _ (h : port < port_count) where
-    pub mask_none : mask ≡ 0 → false ≡ ports_sound port mask
-    unfolding ports_sound
-    mask_none e = simp (lt-ltb _ _ h, eq-eqb _ _ e)
-
-    pub mask_tested : (mask ≡ 0 → ⊥) → (r : ℕ) → r ≡ mask / 2 ^ port % 2 → eqb r 0 ≡ ports_sound port mask
-    unfolding ports_sound
-    mask_tested d r e = simp (lt-ltb _ _ h, ne_eqb _ _ d, e)
-
--- ---- sizes
-module _ (smallest largest smax : ℕ) where
-  pub size_low : smallest < smallest_frame → false ≡ sizes_sound smallest largest smax
-  unfolding sizes_sound
-  size_low h = simp (lt-leb _ _ h)
-
-  module _ (h : smallest_frame ≤ smallest) where
-    pub sizes_swapped : largest < smallest → false ≡ sizes_sound smallest largest smax
-    unfolding sizes_sound
-    sizes_swapped k = simp (le-leb _ _ h, lt-leb _ _ k)
-
-    pub sizes_tested : smallest ≤ largest → leb largest smax ≡ sizes_sound smallest largest smax
-    unfolding sizes_sound
-    sizes_tested k = simp (le-leb _ _ h, le-leb _ _ k)
-
 -- ---- a link
 module _ (l : Link) (n smax : ℕ) where
   pub account_past : n ≤ l.account → false ≡ link_sound l n smax
   unfolding link_sound
   account_past h = simp (le-ltb _ _ h)
-
-  module _ (h : l.account < n) (r : Bool) (e : r ≡ ports_sound l.port l.mask) where
-    pub ports_bad : r ≡ false → false ≡ link_sound l n smax
-    unfolding link_sound
-    ports_bad q = simp (lt-ltb _ _ h, ← e, q)
-
-    pub sizes_left : r ≡ true → (z : Bool) → z ≡ sizes_sound l.smallest l.largest smax → z ≡ link_sound l n smax
-    unfolding link_sound
-    sizes_left q z f = f ∙ simp (lt-ltb _ _ h, ← e, q)
 
   -- what holds of a sound link
   pub sound_account : link_sound l n smax ≡ true → l.account < n
@@ -106,20 +67,21 @@ link_good_same a b l m n j h e f =
     rw e (sound_same (link_in m j) n _ _ (λ k. ap (λ (p : Terms). p.smax) (h (link_in m j).account k))) in
     ap₂ ◌&&◌ (rises_same l m j e f) g
 
--- ---- rows read at their offsets: the octets from `at` on are those of the row
-module _ (a : Rows) (i at : ℕ) (e : at ≡ min a.first (length a.octets) + a.step * i) where
-  pub account_row : (p : Terms) (r : Bool) → p ≡ terms_at a.octets at → r ≡ terms_good p → r ≡ account_good a i
-  unfolding account_good
-  account_row p r f g = g ∙ ap terms_good (f ∙ terms_near a.octets a.first (a.step * i) at e)
+-- ---- row i, read from a first offset that is cut to the run's length: an account's values, its Smax, a link's number
+module _ (s : List ℕ) (first step i : ℕ) where
+  pub account_row : terms_at s (min first (length s) + step * i) ≡ account_in (spaced s first step) i
+  account_row = terms_near s first (step * i) _ refl
 
-  pub smax_row : (x : ℕ) → x ≡ number_at 2 a.octets at → x ≡ (account_in a i).smax
+  pub smax_row : number_at 2 s (min first (length s) + step * i) ≡ (account_in (spaced s first step) i).smax
   unfolding terms_at
-  smax_row x f = f ∙ number_near a.octets a.first (a.step * i) at e 2
+  smax_row = number_near s first (step * i) _ refl 2
 
-pub number_row : (l : Rows) (j at x : ℕ) → at ≡ min l.first (length l.octets) + l.step * j → x ≡ number_at 2 l.octets at
-    → x ≡ (link_in l j).number
-unfolding link_at
-number_row l j at x e f = f ∙ number_near l.octets l.first (l.step * j) at e 2
+  pub number_row : number_at 2 s (min first (length s) + step * i) ≡ (link_in (spaced s first step) i).number
+  unfolding link_at
+  number_row = number_near s first (step * i) _ refl 2
+
+  pub link_row : link_at s (min first (length s) + step * i) ≡ link_in (spaced s first step) i
+  link_row = link_near s first (step * i) _ refl
 
 pub rises_first : (l : Rows) (j : ℕ) → j ≡ 0 → true ≡ number_rises l j
 unfolding number_rises
@@ -138,7 +100,3 @@ module _ (a l : Rows) (n j : ℕ) (r : Bool) (e : r ≡ number_rises l j) where
       v ∙ ap (link_sound k n) u
       ∙ ap (λ (b : Link). link_sound b n (account_in a b.account).smax) m
       ∙ simp (← e, h)
-
-  pub link_row_lem : r ≡ true → (at : ℕ) (k : Link) (x : ℕ) (z : Bool) → at ≡ min l.first (length l.octets) + l.step * j → k ≡ link_at l.octets at
-      → x ≡ (account_in a k.account).smax → z ≡ link_sound k n x → z ≡ link_good a l n j
-  link_row_lem h at k x z f g = link_values h k x z (g ∙ link_near l.octets l.first (l.step * j) at f)

@@ -3,27 +3,23 @@
 #![tactic(auto)]
 
 ghost use Rattle.std.specs.Prelude.{◌≡◌};
-ghost use Rattle.rows.specs.Rows.{rows_by};
+ghost use Rattle.rows.specs.Spaced.{rows_of};
 ghost use Rattle.tables.specs.Rows.{account_in};
 ghost use Rattle.tables_rules.specs.Rules.{ports_sound, sizes_sound, link_sound, account_good, number_rises, link_good};
 
-use rows::Spacing;
+use rows::SpacedRows;
 use tables::Link;
+use terms::Terms;
 
 // Ports of a switch.
 const PORT_COUNT: u8 = 32;
 
 // Whether a port is an input port, and a mask names some output port but not the input port.
+#[tactic(auto, unfolding(crate::specs::Rules::ports_sound))]
 fn ports_sound(port: u8, mask: u32) -> bool
     ensures { result ≡ ports_sound port mask }
 {
-    if PORT_COUNT <= port {
-        return false;
-    }
-    if mask == 0 {
-        return false;
-    }
-    (mask >> port) & 1 == 0
+    port < PORT_COUNT && mask != 0 && (mask >> port) & 1 == 0
 }
 
 // Whether frame sizes rise from the smallest frame to Smax.
@@ -31,68 +27,55 @@ fn ports_sound(port: u8, mask: u32) -> bool
 fn sizes_sound(smallest: u16, largest: u16, smax: u16) -> bool
     ensures { result ≡ sizes_sound smallest largest smax }
 {
-    if (smallest as usize) < frame::SMALLEST_FRAME {
-        return false;
-    }
-    if largest < smallest {
-        return false;
-    }
-    largest <= smax
+    frame::SMALLEST_FRAME <= smallest as usize && smallest <= largest && largest <= smax
 }
 
 // Whether a link's values keep their rules among so many accounts; `smax` is the Smax of the link's account.
+#[tactic(auto, unfolding(crate::specs::Rules::link_sound))]
 pub fn link_sound(link: Link, accounts: usize, smax: u16) -> bool
     ensures { result ≡ link_sound link accounts smax }
 {
-    if accounts <= link.account as usize {
-        return false;
-    }
-    if !ports_sound(link.port, link.mask) {
-        return false;
-    }
-    sizes_sound(link.smallest, link.largest, smax)
+    (link.account as usize) < accounts
+        && ports_sound(link.port, link.mask)
+        && sizes_sound(link.smallest, link.largest, smax)
 }
 
 // Whether the values of row i of the accounts keep their limits.
-pub fn account_good(run: &[u8], rows: Spacing, i: u16) -> bool
-    ensures { result ≡ account_good (rows_by run.now rows) i }
+#[tactic(auto, using(crate::proofs::Rules::account_row), unfolding(crate::specs::Rules::account_good))]
+pub fn account_good(accounts: SpacedRows, i: u16) -> bool
+    ensures { result ≡ account_good (rows_of accounts.entry) i }
 {
-    tables::terms_at(run, rows::row_offset(run, rows, i)).are_good()
+    tables::row_at::<Terms>(accounts.octets, accounts.offset(i)).are_good()
 }
 
 // Smax of row i of the accounts.
-fn smax_of(run: &[u8], rows: Spacing, i: u16) -> u16
-    ensures { result ≡ (account_in (rows_by run.now rows) i).smax }
+#[tactic(auto, using(crate::proofs::Rules::smax_row))]
+fn smax_of(accounts: SpacedRows, i: u16) -> u16
+    ensures { result ≡ (account_in (rows_of accounts.entry) i).smax }
 {
-    octets::u16_at(run, rows::row_offset(run, rows, i))
+    octets::number_at(accounts.octets, accounts.offset(i))
 }
 
 // Whether the number in row j of the links is above that of the row before it.
-fn number_rises(run: &[u8], rows: Spacing, j: u16) -> bool
-    ensures { result ≡ number_rises (rows_by run.now rows) j }
+#[tactic(auto, using(crate::proofs::Rules::number_row), unfolding(crate::specs::Rules::number_rises))]
+fn number_rises(links: SpacedRows, j: u16) -> bool
+    ensures { result ≡ number_rises (rows_of links.entry) j }
 {
     if j == 0 {
         return true;
     }
-    let before = octets::u16_at(run, rows::row_offset(run, rows, j - 1));
-    before < octets::u16_at(run, rows::row_offset(run, rows, j))
+    let before = octets::number_at::<u16>(links.octets, links.offset(j - 1));
+    before < octets::number_at::<u16>(links.octets, links.offset(j))
 }
 
 // Whether the values of row j of the links keep their rules among n accounts, by the Smax of the link's own account.
-pub fn link_good(
-    accounts: &[u8],
-    account_rows: Spacing,
-    n: u16,
-    links: &[u8],
-    link_rows: Spacing,
-    j: u16,
-) -> bool
-    ensures { result ≡ link_good (rows_by accounts.now account_rows) (rows_by links.now link_rows) n j }
+#[tactic(auto, using(crate::proofs::Rules::link_row), unfolding(crate::specs::Rules::link_good))]
+pub fn link_good(accounts: SpacedRows, n: u16, links: SpacedRows, j: u16) -> bool
+    ensures { result ≡ link_good (rows_of accounts.entry) (rows_of links.entry) n j }
 {
-    if !number_rises(links, link_rows, j) {
+    if !number_rises(links, j) {
         return false;
     }
-    let l = tables::link_at(links, rows::row_offset(links, link_rows, j));
-    let smax = smax_of(accounts, account_rows, l.account);
-    link_sound(l, n as usize, smax)
+    let link = tables::row_at::<Link>(links.octets, links.offset(j));
+    link_sound(link, n as usize, smax_of(accounts, link.account))
 }

@@ -1,17 +1,17 @@
 -- What the limits of an account's values say of its products: every product fits 32 bits. The modes share all of this
 -- but the charge added: the products are bounded once, over the charge added. Assumes nothing.
 use Prim.Native.Nat.{ℕ, ◌+◌, ◌*◌, ◌^◌, ◌≤◌, ◌<◌}
-use mathlib.Core.Bool.{Bool, true, false}
-use mathlib.Core.Path.{◌≡◌, sym, ◌∙◌}
+use mathlib.Core.Bool.{true}
+use mathlib.Core.Path.{◌≡◌}
 use native.Mathlib.Nat.{mul-le-mul, mul-le-mul_left, le_trans, le_refl, one-le-pow, one-le-mul}
 use native.Mathlib.Omega.{arith}
-use lib.Dec.{leb, eqb}
+use lib.Dec.{leb}
 use lib.Pow.{pow_mono}
-use borrow.Author.Tests.{leb-true, lt-leb, le-leb, eq-eqb, ne_eqb}
+use borrow.Author.Tests.{leb-true, lt-leb, le-leb}
 use Rattle.lists.proofs.Tests.{split, both}
 use Rattle.frame.specs.Limits.{smallest_frame, largest_frame}
 use Rattle.terms.specs.declared.Terms.{Terms}
-use Rattle.terms.specs.Terms.{largest_k, largest_jitter, byte_mode, line_byte_mode, line_frame_mode, terms_good, shortest_bag, bag, line_octets, added, charge, rate, capacity, by_octets, charged, cost}
+use Rattle.terms.specs.Terms.{largest_k, largest_jitter, line_byte_mode, line_frame_mode, terms_good, shortest_bag, bag, line_octets, added, charge, rate, capacity, by_octets, charged, cost}
 
 -- ---- the limits, one by one
 pub record Limits (p : Terms) : Type 0 where
@@ -36,35 +36,11 @@ limits p e =
       mode_high = leb-true _ _ d.1;
     }
 
--- the test of the limits, as the code makes it
-module _ (p : Terms) where
-  pub smax_below : p.smax < smallest_frame → false ≡ terms_good p
-  unfolding terms_good
-  smax_below h = simp (lt-leb _ _ h)
-
-  module _ (h1 : smallest_frame ≤ p.smax) where
-    pub smax_above : largest_frame < p.smax → false ≡ terms_good p
-    unfolding terms_good
-    smax_above h = simp (le-leb _ _ h1, lt-leb _ _ h)
-
-    module _ (h2 : p.smax ≤ largest_frame) where
-      pub k_above : largest_k < p.k → false ≡ terms_good p
-      unfolding terms_good
-      k_above h = simp (le-leb _ _ h1, le-leb _ _ h2, lt-leb _ _ h)
-
-      module _ (h3 : p.k ≤ largest_k) where
-        pub jitter_above : largest_jitter < p.jitter → false ≡ terms_good p
-        unfolding terms_good
-        jitter_above h = simp (le-leb _ _ h1, le-leb _ _ h2, le-leb _ _ h3, lt-leb _ _ h)
-
-        pub mode_tested : p.jitter ≤ largest_jitter → leb p.mode line_frame_mode ≡ terms_good p
-        unfolding terms_good
-        mode_tested h = simp (le-leb _ _ h1, le-leb _ _ h2, le-leb _ _ h3, le-leb _ _ h)
-
 -- values within all limits pass the test
 pub are_good_by : (p : Terms) → Limits p → terms_good p ≡ true
+unfolding terms_good
 are_good_by p l =
-    sym (mode_tested p l.smax_low l.smax_high l.k_high l.jitter_high) ∙ le-leb _ _ l.mode_high
+    simp (le-leb _ _ l.smax_low, le-leb _ _ l.smax_high, le-leb _ _ l.k_high, le-leb _ _ l.jitter_high, le-leb _ _ l.mode_high)
 
 -- ---- bounds, by formula from the limits
 abbrev longest_bag : ℕ
@@ -84,10 +60,6 @@ bag_high k h = mul-le-mul_left shortest_bag (pow_mono h)
 pub added_none : (m : ℕ) → m < line_byte_mode → added m ≡ 0
 unfolding added
 added_none m h = simp (lt-leb _ _ h)
-
-added_line : (m : ℕ) → line_byte_mode ≤ m → added m ≡ line_octets
-unfolding added
-added_line m h = simp (le-leb _ _ h)
 
 added_high : (m : ℕ) → added m ≤ line_octets
 unfolding added
@@ -113,15 +85,6 @@ module _ (m n : ℕ) where
   charge_rises : (o : ℕ) → n ≤ o → charge m n ≤ charge m o
   unfolding charge
   charge_rises o h = omega arith
-
-  -- the charge as the code takes it
-  pub charge_plain : m < line_byte_mode → n ≡ charge m n
-  unfolding charge
-  charge_plain h = let e = added_none m h in omega arith
-
-  pub charge_lined : line_byte_mode ≤ m → n + line_octets ≡ charge m n
-  unfolding charge
-  charge_lined h = let e = added_line m h in omega arith
 
 -- ---- the products
 module _ (p : Terms) (l : Limits p) where
@@ -179,22 +142,3 @@ module _ (p : Terms) (l : Limits p) where
   pub cost_capacity : (n : ℕ) → n ≤ p.smax → cost p n ≤ capacity p
   unfolding cost capacity
   cost_capacity n h = mul-le-mul (charged_rate n h) (omega arith)
-
--- ---- what is charged for a frame, as the code takes it
-module _ (m : ℕ) where
-  pub by_octets_bytes : m ≡ byte_mode → true ≡ by_octets m
-  unfolding by_octets
-  by_octets_bytes h = simp (eq-eqb _ _ h)
-
-  pub by_octets_line : (m ≡ byte_mode → ⊥) → eqb m line_byte_mode ≡ by_octets m
-  unfolding by_octets
-  by_octets_line h = simp (ne_eqb _ _ h)
-
-module _ (p : Terms) (n : ℕ) (b : Bool) (e : b ≡ by_octets p.mode) (x : ℕ) where
-  pub charged_octets : b ≡ true → x ≡ charge p.mode n → x ≡ charged p n
-  unfolding charged
-  charged_octets h f = simp (sym e ∙ h) f
-
-  pub charged_smax : b ≡ false → x ≡ rate p → x ≡ charged p n
-  unfolding rate charged
-  charged_smax h f = simp (sym e ∙ h) f

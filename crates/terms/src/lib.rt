@@ -34,6 +34,7 @@ pub struct Terms {
 }
 
 // The bandwidth allocation gap in microseconds.
+#[tactic(auto, unfolding(crate::specs::Terms::bag))]
 fn bag_of(k: u8) -> u32
     requires { k ≤ largest_k }
     ensures { result ≡ bag k }
@@ -42,13 +43,16 @@ fn bag_of(k: u8) -> u32
 }
 
 // The octets charged for a number of octets, by mode.
+#[tactic(auto, unfolding(crate::specs::Terms::charge, crate::specs::Terms::added))]
 fn charge(mode: u8, octets: u16) -> u32
     ensures { result ≡ charge mode octets }
 {
-    if mode < LINE_BYTE_MODE {
-        return octets as u32;
-    }
-    octets as u32 + LINE_OCTETS
+    let added = if mode < LINE_BYTE_MODE {
+        0
+    } else {
+        LINE_OCTETS
+    };
+    octets as u32 + added
 }
 
 // Whether the mode charges a frame by its own octets.
@@ -56,10 +60,7 @@ fn charge(mode: u8, octets: u16) -> u32
 fn by_octets(mode: u8) -> bool
     ensures { result ≡ by_octets mode }
 {
-    if mode == BYTE_MODE {
-        return true;
-    }
-    mode == LINE_BYTE_MODE
+    matches!(mode, BYTE_MODE | LINE_BYTE_MODE)
 }
 
 impl Terms {
@@ -68,22 +69,14 @@ impl Terms {
     pub fn are_good(self) -> bool
         ensures { result ≡ terms_good self }
     {
-        if (self.smax as usize) < frame::SMALLEST_FRAME {
-            return false;
-        }
-        if frame::LARGEST_FRAME < self.smax as usize {
-            return false;
-        }
-        if LARGEST_K < self.k {
-            return false;
-        }
-        if LARGEST_JITTER < self.jitter {
-            return false;
-        }
-        self.mode <= LINE_FRAME_MODE
+        (frame::SMALLEST_FRAME..=frame::LARGEST_FRAME).contains(&(self.smax as usize))
+            && self.k <= LARGEST_K
+            && self.jitter <= LARGEST_JITTER
+            && self.mode <= LINE_FRAME_MODE
     }
 
     // What a microsecond adds to the credit: the charge of Smax.
+    #[tactic(auto, unfolding(crate::specs::Terms::rate))]
     pub fn rate(self) -> u32
         ensures { result ≡ rate self }
     {
@@ -91,13 +84,15 @@ impl Terms {
     }
 
     // The octets charged for a frame: its own octets, or Smax.
+    #[tactic(auto, unfolding(crate::specs::Terms::charged, crate::specs::Terms::rate))]
     fn charged(self, octets: u16) -> u32
         ensures { result ≡ charged self octets }
     {
         if by_octets(self.mode) {
-            return charge(self.mode, octets);
+            charge(self.mode, octets)
+        } else {
+            self.rate()
         }
-        self.rate()
     }
 
     // The capacity; 0 where the values break a limit. Values within limits have 64 x 1,000 or more, so 0 always means a
@@ -108,8 +103,7 @@ impl Terms {
         if !self.are_good() {
             return 0;
         }
-        let rate = self.rate();
-        rate * (bag_of(self.k) + self.jitter as u32)
+        self.rate() * (bag_of(self.k) + self.jitter as u32)
     }
 
     // The cost of a frame; 0 where the values break a limit or no frame has so many octets.

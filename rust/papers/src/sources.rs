@@ -204,12 +204,18 @@ fn statements(text: &str) -> Vec<(usize, Statement<'_>)> {
             }
         } else {
             let (name, kind) = word(line);
-            if is_type(kind) {
+            if is_type(kind) && !is_data(text.lines().nth(number)) {
                 found.push((number, Statement::Claim(name)));
             }
         }
     }
     found
+}
+
+/// Whether a definition's line gives a type of data a name, as `Found = Option ℕ` does; such a name claims nothing.
+fn is_data(line: Option<&str>) -> bool {
+    let value = line.and_then(|line| line.split_once(" = "));
+    value.is_some_and(|(_, value)| ["Option", "Result"].contains(&word(value).0))
 }
 
 /// Whether what follows a name is `: Type` with its level.
@@ -229,7 +235,7 @@ fn proved(text: &str) -> Vec<&str> {
         .collect()
 }
 
-/// The functions, constants, structs and enums of a file of code.
+/// The functions, constants, structs, enums and traits of a file of code.
 fn items(text: &str) -> Names<'_> {
     let mut items = Names::new();
     for line in text.lines() {
@@ -239,7 +245,7 @@ fn items(text: &str) -> Names<'_> {
             .or(line.strip_prefix("pub "))
             .unwrap_or(line);
         let line = line.strip_prefix("extern \"C\" ").unwrap_or(line);
-        let kinds = ["fn ", "const ", "struct ", "enum "];
+        let kinds = ["fn ", "const ", "struct ", "enum ", "trait "];
         items.extend(
             kinds
                 .iter()
@@ -298,6 +304,9 @@ mod tests {
 abbrev pub Limits : Type 0
 Limits = (a ≡ 1)
 
+abbrev pub Row : Type 0
+Row = Option Nat
+
 abbrev pub Kept : Nat → Type 0
 unfoldable pub size : Nat → Nat
 
@@ -339,8 +348,8 @@ pub mod Nothing
         let frame = &crates["frame"];
         let names: Vec<&str> = frame.specs["Claims"].iter().copied().collect();
         let all = [
-            "Both", "Data", "Kept", "Limits", "Of", "Whole", "both", "limits", "octets", "same",
-            "size", "sums",
+            "Both", "Data", "Kept", "Limits", "Of", "Row", "Whole", "both", "limits", "octets",
+            "same", "size", "sums",
         ];
         assert_eq!(names, all);
         let items: Vec<&str> = frame.items["lib.rt"].iter().copied().collect();
@@ -349,7 +358,7 @@ pub mod Nothing
         assert!(frame.proofs["Claims"].contains("limits-hold"));
     }
 
-    /// `Kept` and `Of` are said of values, and `Data` holds some: none is true or false by itself.
+    /// `Kept` and `Of` are said of values, `Data` holds some, and `Row` is a type of them: none is true or false by itself.
     #[test]
     fn theorems_of_a_crate() {
         let tree = tree();
@@ -359,7 +368,7 @@ pub mod Nothing
             .iter()
             .map(|t| (t.name, t.line))
             .collect();
-        assert_eq!(found, [("Limits", 2), ("Both", 11), ("Whole", 17)]);
+        assert_eq!(found, [("Limits", 2), ("Both", 14), ("Whole", 20)]);
         let proved: Vec<&str> = crates["frame"].proved.iter().copied().collect();
         assert_eq!(proved, ["Both", "Limits", "Whole"]);
     }

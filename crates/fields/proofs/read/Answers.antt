@@ -1,11 +1,11 @@
--- `read`: all zeros past the end, else part by part. Assumes nothing.
-use Rattle.fields.proofs.Fields.{field_past, field_is}
+-- `read`: part by part. Assumes nothing.
+use mathlib.Core.Path.{◌∙◌}
+use native.Mathlib.Omega.{arith}
+use Rattle.fields.proofs.Fields.{field_is, number_cut}
 use Rattle.fields.proofs.read.Goals as goal
-
-pub returns-then-run-at : goal.returns-then-run-at
-returns-then-run-at c = field_past _ _ c.if-run-at.true
 
 pub returns : goal.returns
 returns c =
     let a = c.args in
-    field_is a.run.now a.at _ _ _ _ c.has_room.ensures c.octet_at.ensures c.u16_at-size.ensures c.has_room-2.ensures
+    let n = c.number_at-size.ensures ∙ number_cut 2 a.run.now _ _ _ c.saturating_add.ensures (omega arith) in
+    field_is a.run.now a.at _ _ _ _ c.has_room.ensures c.octet_at.ensures n c.has_room-2.ensures

@@ -1,29 +1,18 @@
--- `fill_credits`: nothing without room, else one by one. The loop's invariant: the first i credits are stored. Assumes
--- nothing.
-use mathlib.Core.Path.{refl, sym}
-use native.Mathlib.Nat.{zero-add, one-mul}
-use native.Mathlib.Omega.{arith}
-use Rattle.octets.proofs.Filled.{fill_start, fill_refused, fill_one, fill_end}
-use Rattle.octets.proofs.Tests.{fits}
+-- `fill_credits`: nothing without room, else one by one. Assumes nothing.
+use Rattle.std.proofs.Common.{refl}
+use native.Mathlib.Nat.{one-mul}
+use Rattle.octets.proofs.Filled.{fill_end}
+use Rattle.image_fill.proofs.Filling.{copy_refused, copy_starts, credit_goes_on}
 use Rattle.image_fill.proofs.fill_credits.Goals as goal
 
-pub returns-then-not-has_room : goal.returns-then-not-has_room
-returns-then-not-has_room c = fill_refused _ _ _ _ _ (λ k. refl) (sym (one-mul _)) c.has_room.ensures c.if-not-has_room.true
+pub returns-then-credits-n : goal.returns-then-credits-n
+returns-then-credits-n c = copy_refused {w = 1} refl _ _ _ (λ k. refl) (rw one-mul c.if-credits-n.true)
 
 pub loop-i-init : goal.loop-i-init
-loop-i-init c = fill_start (λ k. refl) (rw one-mul (fits _ _ _ _ c.has_room.ensures c.if-not-has_room.false))
-
-pub bounds-credits-i : goal.bounds-credits-i
-bounds-credits-i c = omega arith
-
-pub overflow_add-i : goal.overflow_add-i
-overflow_add-i c = omega arith
-
-pub loop-i-smaller : goal.loop-i-smaller
-loop-i-smaller c = omega arith
+loop-i-init c = copy_starts refl _ _ _ (λ k. refl) (rw one-mul c.if-credits-n.false)
 
 pub loop-i-preserved : goal.loop-i-preserved
-loop-i-preserved c = fill_one c.loop-i.invariant c.loop-i-test.true (sym (zero-add _)) c.capacity_of.ensures
+loop-i-preserved c = credit_goes_on _ c.loop-i.invariant c.loop-i-test.true _ c.offset.ensures _ c.row_at-terms.ensures c.capacity.ensures
 
 pub returns : goal.returns
 returns c = search fill_end

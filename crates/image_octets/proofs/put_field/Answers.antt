@@ -1,6 +1,5 @@
 -- `put_field`: nothing without room, else tag, length and data side by side. Assumes nothing.
 use Prim.Native.Nat.{◌+◌, ◌≤◌}
-use native.Mathlib.Omega.{arith}
 use lib.ListN.{length}
 use Rattle.octets.proofs.Parts.{length_part}
 use Rattle.octets.proofs.Runs.{put_refused}
@@ -17,15 +16,6 @@ room c = fits _ _ _ _ c.has_room.ensures c.if-not-has_room.false
 pub returns-then-not-has_room : goal.returns-then-not-has_room
 returns-then-not-has_room c = search (put_refused, length_sized)
 
-pub bounds-room-at : goal.bounds-room-at
-bounds-room-at c = let h = room c in omega arith
-
-pub overflow_add-at : goal.overflow_add-at
-overflow_add-at c = let h = room (goal.at.overflow_add-at c).Else-not-has_room in omega arith
-
-pub overflow_add-at-2 : goal.overflow_add-at-2
-overflow_add-at-2 c = let h = room (goal.at.overflow_add-at-2 c).Else-not-has_room in omega arith
-
 pub returns : goal.returns
 returns c =
-    field_written _ _ _ _ _ _ _ (length_part _ _ _) (room (goal.at.returns c).Else-not-has_room) c.put_u16.ensures c.copy.ensures
+    field_written _ _ _ _ _ _ _ (length_part _ _ _) (room (goal.at.returns c).Else-not-has_room) c.put_number.ensures c.copy.ensures

@@ -1,5 +1,5 @@
 -- `put_fields`: nothing without room, else field by field. The loop's invariant: the first i fields are written. Assumes nothing.
-use Prim.Native.Nat.{◌+◌, ◌-◌}
+use Prim.Native.Nat.{◌+◌}
 use Rattle.octets.proofs.Filled.{Filled}
 use Rattle.fields.specs.Fields.{tag_and_length}
 use Rattle.image_octets.proofs.Written.{row_field}
@@ -7,6 +7,3 @@ use Rattle.image_octets.proofs.put_fields.Given as goal
 
 abbrev pub invariant-loop-i : goal.invariant-loop-i
 invariant-loop-i l = Filled l.initial.room l.at (tag_and_length + l.size) (row_field l.tag l.size l.rows) l.n l.i l.room
-
-abbrev pub decreases-loop-i : goal.decreases-loop-i
-decreases-loop-i l = l.n - l.i

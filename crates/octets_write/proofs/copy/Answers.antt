@@ -1,17 +1,14 @@
--- `copy`: nothing without room, else by whether all the octets are inside the run. Assumes nothing.
+-- `copy`: nothing without room, else the part that is lent is filled. Assumes nothing.
 use Rattle.octets.proofs.Parts.{length_part}
-use Rattle.octets.proofs.Runs.{put_refused}
+use Rattle.octets.proofs.Runs.{put_refused, length_lent, put_lent}
 use Rattle.octets.proofs.Tests.{fits}
 use Rattle.octets_write.proofs.copy.Goals as goal
 
-pub returns-then-not-has_room : goal.returns-then-not-has_room
-returns-then-not-has_room c = search (put_refused, length_part)
+pub returns-then-has_room : goal.returns-then-has_room
+returns-then-has_room c =
+    let a = c.args in
+    let h = fits _ _ _ _ c.has_room.ensures c.if-has_room.true in
+    put_lent a.to.now a.offset a.size h (rw (length_lent a.to.now a.offset a.size h) at c.fill_from.ensures) (length_part a.size a.from.now a.at)
 
-pub copy_whole-requires : goal.copy_whole-requires
-copy_whole-requires c = record {
-  from_inside = fits _ _ _ _ c.has_room-2.ensures c.if-has_room.true;
-  to_inside = fits _ _ _ _ c.has_room.ensures c.if-not-has_room.false;
-}
-
-pub copy_padded-requires : goal.copy_padded-requires
-copy_padded-requires c = fits _ _ _ _ c.has_room.ensures c.if-not-has_room.false
+pub returns-else-has_room : goal.returns-else-has_room
+returns-else-has_room c = search (put_refused, length_part)

@@ -12,4 +12,4 @@ search-requires c = search (rows_inside, rules)
 pub returns : goal.returns
 returns c =
     let a = c.args in
-    c.search.ensures ∙ ap (λ (n : ℕ). found_in (table_of (number_octets + a.rest) a.rows.now) n a.number) c.least-used.ensures
+    c.search.ensures ∙ ap (λ (n : ℕ). found_in (table_of (number_octets + a.rest) a.rows.now) n a.number) c.min-used.ensures

@@ -1,16 +1,20 @@
 -- `look_up`: the row found, which lies inside the run. Assumes nothing.
+use Prim.Native.Nat.{◌+◌, ◌*◌, ◌≤◌}
 use native.Mathlib.Omega.{arith}
-use Rattle.tables.proofs.Lookups.{found_inside, lookup_absent, lookup_present}
+use lib.ListN.{length}
+use Rattle.tables.specs.Rows.{link_octets}
+use Rattle.tables.proofs.Lookups.{found_inside}
 use Rattle.tables.proofs.look_up.Goals as goal
+use Rattle.tables.proofs.look_up.Goals.{In_ok-row}
 
-pub overflow_mul-row : goal.overflow_mul-row
-overflow_mul-row c = omega (arith, found_inside _ _ _ _ c.find-found.ensures _ c.in-At.is)
+inside : (c : In_ok-row) → link_octets * c.in_ok-row.row + link_octets ≤ length c.args.links.now
+inside c = found_inside _ _ _ _ c.find.ensures _ c.in_ok-row.was
 
-pub link_in-requires : goal.link_in-requires
-link_in-requires c = search found_inside
+pub overflow_mul-at : goal.overflow_mul-at
+overflow_mul-at c = omega (arith, inside c)
 
-pub returns-in-Nowhere : goal.returns-in-Nowhere
-returns-in-Nowhere c = search lookup_absent
+pub overflow_add-at : goal.overflow_add-at
+overflow_add-at c = omega (arith, inside c)
 
-pub returns-in-At : goal.returns-in-At
-returns-in-At c = search lookup_present
+pub slice_bounds-of_octets-end : goal.slice_bounds-of_octets-end
+slice_bounds-of_octets-end c = omega (arith, inside c)

@@ -13,8 +13,8 @@ overflow_add-row c = omega (arith, inside _ _ _ _ _ c.stands.ensures c.if-not-st
 pub overflow_add-row-2 : goal.overflow_add-row-2
 overflow_add-row-2 c = omega (arith, inside _ _ _ _ _ c.stands.ensures c.if-not-stands.false)
 
-pub slice_bounds-terms_at-end : goal.slice_bounds-terms_at-end
-slice_bounds-terms_at-end c = omega (arith, inside _ _ _ _ _ c.stands.ensures c.if-not-stands.false)
+pub slice_bounds-of_octets-end : goal.slice_bounds-of_octets-end
+slice_bounds-of_octets-end c = omega (arith, inside _ _ _ _ _ c.stands.ensures c.if-not-stands.false)
 
 pub returns : goal.returns
 returns c = search (account_valued, account_values)

@@ -16,11 +16,11 @@ overflow_add-row c = omega (arith, inside _ _ _ _ _ c.stands.ensures c.if-not-st
 pub overflow_add-row-2 : goal.overflow_add-row-2
 overflow_add-row-2 c = omega (arith, inside _ _ _ _ _ c.stands.ensures c.if-not-stands.false)
 
-pub slice_bounds-link_at-end : goal.slice_bounds-link_at-end
-slice_bounds-link_at-end c = omega (arith, inside _ _ _ _ _ c.stands.ensures c.if-not-stands.false)
+pub slice_bounds-of_octets-end : goal.slice_bounds-of_octets-end
+slice_bounds-of_octets-end c = omega (arith, inside _ _ _ _ _ c.stands.ensures c.if-not-stands.false)
 
 pub number_rises-requires : goal.number_rises-requires
-number_rises-requires c = ap (λ (l : Link). l.number) (link_in_lem _ _ _ _ c.field_offset-at.ensures _ c.link_at-link.ensures)
+number_rises-requires c = ap (λ (l : Link). l.number) (link_in_lem _ _ _ _ c.field_offset-at.ensures _ c.of_octets-link.ensures)
 
 pub returns-then-not-number_rises : goal.returns-then-not-number_rises
 returns-then-not-number_rises c = search (link_valued, link_falls)
