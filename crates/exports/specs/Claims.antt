@@ -1,14 +1,18 @@
 -- The numbers that programs in other languages get (include/ashthulgo.h): each number is the part of the answer that
 -- the number is named for, whichever the answer is (document 01, "Codes, in order of checking" and "The configuration
 -- image"; document 02, Q-1); proved in proofs/Claims.antt.
-use Rattle.std.specs.Prelude.{ℕ, List, [], ◌∷◌, map, ◌≡◌}
+use Rattle.std.specs.Prelude
+use Rattle.std.specs.Prelude.{ℕ, List, [], ◌∷◌, map, ◌≡◌, Some, None}
+use Rattle.std.proofs.Math.Option.{Option, none, some}
 use Rattle.codes.specs.Refused.{number_of}
 use Rattle.codes.specs.declared.Refusal.{Refusal}
-use Rattle.account.specs.Step.{stepped, turned_away}
+use Rattle.account.specs.Step.{stepped, turned_away, step_reported, outcome_credit}
 use Rattle.account.specs.declared.Account.{Account}
-use Rattle.account.specs.declared.Outcome.TheVariants as Outcome
-use Rattle.switch_verdict.specs.Verdict.{reported, refused}
-use Rattle.switch_verdict.specs.declared.Verdict.TheVariants as Verdict
+use Rattle.account.specs.declared.Outcome.{Outcome}
+use Rattle.account.specs.declared.Outcome.TheVariants as OutcomeOf
+use Rattle.switch_verdict.specs.Verdict.{reported, refused, verdict_mask, verdict_credit}
+use Rattle.switch_verdict.specs.declared.Verdict.{Verdict}
+use Rattle.switch_verdict.specs.declared.Verdict.TheVariants as VerdictOf
 use Rattle.switch.specs.Call.{State, after_of}
 use Rattle.receive.specs.Receive.{received_of}
 use Rattle.receive_answer.specs.declared.Network.TheVariants.{A, B}
@@ -40,11 +44,11 @@ StepFigures =
     ((code credit : ℕ) → ((step_numbers code credit).code ≡ code) × ((step_numbers code credit).credit ≡ credit))
     × ((n : StepNumbers) (a : Account) → ((step_done n a).says ≡ n) × ((step_done n a).account ≡ a))
     × ((code credit : ℕ) (a : Account)
-    → (step_done_of (stepped (Outcome.Forwarded credit) a) ≡ step_done (step_numbers 0 credit) a)
-    × (step_done_of (stepped (Outcome.Short credit) a) ≡ step_done (step_numbers 9 credit) a)
-    × (step_done_of (stepped (Outcome.Late credit) a) ≡ step_done (step_numbers 8 credit) a)
+    → (step_done_of (stepped (OutcomeOf.Forwarded credit) a) ≡ step_done (step_numbers 0 credit) a)
+    × (step_done_of (stepped (OutcomeOf.Short credit) a) ≡ step_done (step_numbers 9 credit) a)
+    × (step_done_of (stepped (OutcomeOf.Late credit) a) ≡ step_done (step_numbers 8 credit) a)
     × (step_done_of (turned_away code a) ≡ step_done (step_numbers code 0) a))
-    × ((r : Refusal) (a : Account) → step_done_of (stepped (Outcome.Refused r) a) ≡ step_done (step_numbers (number_of r) 0) a)
+    × ((r : Refusal) (a : Account) → step_done_of (stepped (OutcomeOf.Refused r) a) ≡ step_done (step_numbers (number_of r) 0) a)
 
 -- ---- the frame call: 0 with mask and credit, 9 and 8 with their credit and mask 0, any other code with zeros; and the
 -- state after the call
@@ -56,11 +60,11 @@ CallFigures =
     × ((call_numbers code mask credit).credit ≡ credit))
     × ((n : CallNumbers) (s : State) → ((call_done n s).says ≡ n) × ((call_done n s).state ≡ s))
     × ((code mask credit : ℕ) (s : State)
-    → (call_done_of (after_of (reported (Verdict.Forwarded mask credit)) s) ≡ call_done (call_numbers 0 mask credit) s)
-    × (call_done_of (after_of (reported (Verdict.Short credit)) s) ≡ call_done (call_numbers 9 0 credit) s)
-    × (call_done_of (after_of (reported (Verdict.Late credit)) s) ≡ call_done (call_numbers 8 0 credit) s)
+    → (call_done_of (after_of (reported (VerdictOf.Forwarded mask credit)) s) ≡ call_done (call_numbers 0 mask credit) s)
+    × (call_done_of (after_of (reported (VerdictOf.Short credit)) s) ≡ call_done (call_numbers 9 0 credit) s)
+    × (call_done_of (after_of (reported (VerdictOf.Late credit)) s) ≡ call_done (call_numbers 8 0 credit) s)
     × (call_done_of (after_of (refused code) s) ≡ call_done (call_numbers code 0 0) s))
-    × ((r : Refusal) (s : State) → call_done_of (after_of (reported (Verdict.Refused r)) s) ≡ call_done (call_numbers (number_of r) 0 0) s)
+    × ((r : Refusal) (s : State) → call_done_of (after_of (reported (VerdictOf.Refused r)) s) ≡ call_done (call_numbers (number_of r) 0 0) s)
 
 -- ---- reading and loading an image
 abbrev pub ImageNumbers : Type 0
@@ -83,6 +87,16 @@ ReceptionFigures =
     → map (λ a. reception_done_of (received_of a r)) (Delivered ∷ Copy ∷ OutOfSequence ∷ UnknownLink ∷ Late ∷ [])
     ≡ map (λ n. reception_done n r) (0 ∷ 30 ∷ 31 ∷ 4 ∷ 8 ∷ []))
 
+-- ---- an answer carries what it reports, and nothing that it doesn't report
+abbrev pub carried : Prelude.Option ℕ → Option ℕ
+carried None = none
+carried (Some x) = some x
+
+abbrev pub AnswersCarry : Type 0
+AnswersCarry =
+    ((o : Outcome) → carried (outcome_credit o) ≡ (step_reported o).credit)
+    × ((v : Verdict) → (carried (verdict_mask v) ≡ (reported v).mask) × (carried (verdict_credit v) ≡ (reported v).credit))
+
 -- all figures of the static library
 pub record ExportFigures : Type 0 where
   pub header : HeaderNumbers
@@ -91,3 +105,4 @@ pub record ExportFigures : Type 0 where
   pub call : CallFigures
   pub image : ImageNumbers
   pub reception : ReceptionFigures
+  pub carries : AnswersCarry
