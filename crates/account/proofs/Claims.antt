@@ -1,20 +1,20 @@
 -- What holds of the policing step and the methods for any account. Assumes nothing.
 use Prim.Native.Nat.{ℕ, ◌-◌, ◌≤◌, ◌<◌}
-use mathlib.Core.Bool.{true}
+use mathlib.Core.Bool.{true, cond}
 use mathlib.Core.Logic.{◌⊎◌, ⊎_elim}
-use mathlib.Core.Option.{some}
+use mathlib.Core.Option.{Option, none, some}
 use mathlib.Core.Path.{◌≡◌, refl, sym, ap, ◌∙◌}
 use mathlib.Core.List.{[], ◌∷◌, Memᴰ}
 use native.Mathlib.Nat.{sub-zero}
 use native.Mathlib.Omega.{arith}
-use Rattle.codes.proofs.Claims.{refusals_apart}
+use lib.Dec.{eqb}
 use Rattle.lists.proofs.Tests.{neither}
 use Rattle.frame.specs.Frame.{length_code}
 use Rattle.frame.proofs.Frame.{within, by_length}
 use Rattle.terms.specs.Terms.{capacity, cost}
 use Rattle.terms.proofs.Limits.{limits, cost_low, cost_capacity}
 use Rattle.account.specs.Account.{terms_of, holding, account_sound, credit_at, cost_of, topped_up, debited}
-use Rattle.account.specs.Step.{StepReport, step_reported, outcome_code, Stepped, stepped, turned_away, policed}
+use Rattle.account.specs.Step.{StepReport, step_reported, Stepped, stepped, policed}
 use Rattle.account.specs.Claims.{SoundLimits, StepsApart, StepAnswers, RefusedStepKeeps, ShortStepTopsUp, ForwardedStepTakesCost, StepBelowCapacity, Reports, RefusedStepReports}
 use Rattle.account.specs.Methods.{StepIsTopUpAndDebit, FullTopUp, SoundMethods, Idle, RefusedMethodsIdle, MethodsHandBack}
 use Rattle.account.specs.declared.Account.{Account}
@@ -26,27 +26,23 @@ use Rattle.account.proofs.Step.{Refuses, by_step}
 pub sound_within : SoundLimits
 sound_within a = (λ v. (sound_limits a v, sound_credit a v), λ h. sound_by a h.0 h.1)
 
--- two answers of one code and one credit are the same
-apart : (o q : Outcome) → outcome_code o ≡ outcome_code q → (step_reported o).credit ≡ (step_reported q).credit → o ≡ q
-apart (Forwarded c) (Forwarded d) n e = cc
-apart (Forwarded c) (Short d) n e = cc
-apart (Forwarded c) (Late d) n e = cc
-apart (Forwarded c) (Refused q) n e = cc
-apart (Short c) (Forwarded d) n e = cc
-apart (Short c) (Short d) n e = cc
-apart (Short c) (Late d) n e = cc
-apart (Short c) (Refused q) n e = cc
-apart (Late c) (Forwarded d) n e = cc
-apart (Late c) (Short d) n e = cc
-apart (Late c) (Late d) n e = cc
-apart (Late c) (Refused q) n e = cc
-apart (Refused r) (Forwarded d) n e = cc
-apart (Refused r) (Short d) n e = cc
-apart (Refused r) (Late d) n e = cc
-apart (Refused r) (Refused q) n e = ap Refused (refusals_apart r q n)
+-- the answer that a report belongs to
+heard : StepReport → Outcome
+heard w = from w.code w.credit
+  where
+    from : ℕ → Option ℕ → Outcome
+    from n none = Refused n
+    from n (some c) = cond (eqb n 0) (Forwarded c) (cond (eqb n 9) (Short c) (Late c))
+
+heard_reported : (o : Outcome) → heard (step_reported o) ≡ o
+unfolding heard
+heard_reported (Forwarded c) = refl
+heard_reported (Short c) = refl
+heard_reported (Late c) = refl
+heard_reported (Refused n) = refl
 
 pub steps_apart : StepsApart
-steps_apart o q e = apart o q (ap (λ (w : StepReport). w.code) e) (ap (λ (w : StepReport). w.credit) e)
+steps_apart o q e = sym (heard_reported o) ∙ ap heard e ∙ heard_reported q
 
 -- a code that refuses a length is 1 or 2
 length_refuses : (n : ℕ) → (length_code n ≡ 0 → ⊥) → (P : ℕ → Type 0) → P 1 → P 2 → P (length_code n)
@@ -130,7 +126,7 @@ by_reached : (a : Account) (n t : ℕ) (P : Stepped → Type 0)
     → ((policed a n t).says.code ≡ 0) ⊎ ((policed a n t).says.code ≡ 9) → P (policed a n t)
 by_reached a n t P i j =
     by_step a n t (λ q. (q.says.code ≡ 0) ⊎ (q.says.code ≡ 9) → P q)
-    (λ m. length_refuses n m (λ x. (x ≡ 0) ⊎ (x ≡ 9) → P (turned_away x a))
+    (λ m. length_refuses n m (λ x. (x ≡ 0) ⊎ (x ≡ 9) → P (stepped (Refused x) a))
     (neither 1 0 9 (λ e. omega arith) (λ e. omega arith))
     (neither 2 0 9 (λ e. omega arith) (λ e. omega arith)))
     (λ _ _ x r. neither x 0 9 (others x r).0 (others x r).2)

@@ -1,4 +1,5 @@
 pub mod Claims
 pub mod Codes
 pub mod Methods
+pub mod Refill
 pub mod Step

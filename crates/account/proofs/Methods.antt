@@ -1,7 +1,7 @@
 -- Laws of an account's methods, case by case. Assumes nothing.
 use Prim.Native.Nat.{ℕ, ◌-◌, ◌≤◌, ◌<◌}
 use mathlib.Core.Bool.{true, false, ◌&&◌}
-use mathlib.Core.Path.{◌≡◌, refl, ap, ap₂, ◌∙◌}
+use mathlib.Core.Path.{◌≡◌, refl, sym, ap, ap₂, ◌∙◌}
 use native.Mathlib.Nat.{min-le_left}
 use native.Mathlib.Omega.{arith}
 use lib.Dec.{leb, eqb}
@@ -14,7 +14,7 @@ use Rattle.lists.proofs.Tests.{split, both}
 use Rattle.frame.specs.Frame.{length_code}
 use Rattle.terms.specs.Terms.{terms_good, capacity, cost, checked_capacity, checked_cost}
 use Rattle.terms.proofs.Limits.{limits, capacity_low}
-use Rattle.account.specs.Account.{terms_of, holding, account_sound, credit_at, credit_up_to, capacity_of, sound_capacity, cost_of, topped_up, debited}
+use Rattle.account.specs.Account.{terms_of, holding, account_sound, credit_at, credit_up_to, capacity_of, sound_capacity, cost_of, measured, topped_up, debited}
 use Rattle.account.specs.declared.Account.{Account}
 use Rattle.account.specs.declared.Measured.{Measured}
 
@@ -92,6 +92,10 @@ module _ (a : Account) where
 
   -- ---- top-up: b is the account that the code gives
   module _ (t : ℕ) where
+    module _ (c : ℕ) (b : Account) where
+      pub brought_refilled : (w : ℕ) → w ≡ credit_up_to a c t → b ≡ holding a w t → b ≡ holding a (credit_up_to a c t) t
+      brought_refilled w e f = f ∙ ap (λ (x : ℕ). holding a x t) e
+
     pub top_up_unsound : account_sound a ≡ false → a ≡ topped_up a t
     unfolding topped_up
     top_up_unsound v = simp v
@@ -121,6 +125,12 @@ module _ (a : Account) where
     pub cost_checked : account_sound a ≡ true → checked_cost (terms_of a) n ≡ cost_of a n
     unfolding checked_cost cost_of
     cost_checked v = split (eqb (length_code n) 0) (λ z. simp (z, v, sound_limits v)) (λ z. simp (z, sound_limits v))
+
+    module _ (full : ℕ) (f : full ≡ capacity_of a) where
+      pub cost_some : (full ≡ 0 → ⊥) → (x : ℕ) → x ≡ checked_cost (terms_of a) n → measured x a ≡ measured (cost_of a n) a
+      cost_some h x e =
+          let v : account_sound a ≡ true = split (account_sound a) (λ v. v) (λ v. absurd (h (f ∙ sym (capacity_not v)))) in
+          ap (λ (y : ℕ). measured y a) (e ∙ cost_checked v)
 
     module _ (x : ℕ) (e : x ≡ cost_of a n) where
       pub debit_short : a.credit < x → a ≡ debited a n

@@ -17,7 +17,7 @@ use Rattle.account.specs.Account.{terms_of, holding, account_sound, credit_up_to
 use Rattle.account.specs.Step.{Stepped, stepped, turned_away, judged, judged_at, policed}
 use Rattle.account.specs.declared.Account.{Account}
 use Rattle.account.proofs.Methods.{sound_limits}
-use Rattle.account.specs.declared.Outcome.TheVariants.{Forwarded, Short, Late}
+use Rattle.account.specs.declared.Outcome.TheVariants.{Forwarded, Short, Late, Refused}
 
 -- no refusal has the number of success
 pub numbered_above : (r : Refusal) → number_of r ≡ 0 → ⊥
@@ -32,7 +32,7 @@ numbered_above Unsound e = omega arith
 
 module _ (a : Account) (n t : ℕ) where
   -- a length is refused by its code r
-  pub police_length : (r : ℕ) → r ≡ length_code n → (r ≡ 0 → ⊥) → turned_away r a ≡ policed a n t
+  pub police_length : (r : ℕ) → r ≡ length_code n → (r ≡ 0 → ⊥) → stepped (Refused r) a ≡ policed a n t
   unfolding policed
   police_length r e h = simp (e, ne_eqb (length_code n) 0 (rw e at h))
 
@@ -73,8 +73,8 @@ module _ (a : Account) (n t : ℕ) where
   -- case analysis of a step: a property of each possible answer is one of the step's answer; an unsound account gets
   -- the code of a refusal
   pub by_step : (P : Stepped → Type 0)
-      → ((length_code n ≡ 0 → ⊥) → P (turned_away (length_code n) a))
-      → (length_code n ≡ 0 → account_sound a ≡ false → (x : ℕ) → Refuses x → P (turned_away x a))
+      → ((length_code n ≡ 0 → ⊥) → P (stepped (Refused (length_code n)) a))
+      → (length_code n ≡ 0 → account_sound a ≡ false → (x : ℕ) → Refuses x → P (stepped (Refused x) a))
       → (length_code n ≡ 0 → account_sound a ≡ true → t < a.last → P (stepped (Late a.credit) a))
       → (length_code n ≡ 0 → account_sound a ≡ true → a.last ≤ t → credit_at a t < cost (terms_of a) n
       → P (stepped (Short (credit_at a t)) (holding a (credit_at a t) t)))

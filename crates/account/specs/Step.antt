@@ -29,7 +29,7 @@ abbrev pub step_reported : Outcome → StepReport
 step_reported (Forwarded c) = record { code = Codes.success; credit = some c }
 step_reported (Short c) = record { code = Codes.short; credit = some c }
 step_reported (Late c) = record { code = Codes.late; credit = some c }
-step_reported (Refused r) = refused (number_of r)
+step_reported (Refused n) = record { code = n; credit = none }
 
 -- the code of an answer, and the credit that it carries
 abbrev pub outcome_code : Outcome → ℕ
@@ -39,7 +39,7 @@ abbrev pub outcome_credit : Outcome → Prelude.Option ℕ
 outcome_credit (Forwarded c) = Some c
 outcome_credit (Short c) = Some c
 outcome_credit (Late c) = Some c
-outcome_credit (Refused r) = None
+outcome_credit (Refused n) = None
 
 -- a step's report, and the account that the step leaves
 pub record Stepped : Type 0 where
@@ -77,6 +77,6 @@ judged_at a full x t = if ltb t a.last then stepped (Late a.credit) a else judge
 -- the step for a frame of n octets at time t: the length, the account, the time and then the credit decide
 unfoldable pub policed : Account → ℕ → ℕ → Stepped
 policed a n t =
-    if not (eqb (length_code n) Codes.success) then turned_away (length_code n) a
-    else if not (account_sound a) then turned_away Codes.unsound a
+    if not (eqb (length_code n) Codes.success) then stepped (Refused (length_code n)) a
+    else if not (account_sound a) then stepped (Refused Codes.unsound) a
     else judged_at a (capacity (terms_of a)) (cost (terms_of a) n) t

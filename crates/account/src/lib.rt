@@ -35,7 +35,7 @@ pub enum Outcome {
     Forwarded(u32),
     Short(u32),
     Late(u32),
-    Refused(Refusal),
+    Refused(u8),
 }
 
 impl Outcome {
@@ -47,7 +47,7 @@ impl Outcome {
             Self::Forwarded(_) => codes::SUCCESS,
             Self::Short(_) => codes::SHORT,
             Self::Late(_) => codes::LATE,
-            Self::Refused(refusal) => refusal.into(),
+            Self::Refused(code) => code,
         }
     }
 
@@ -230,7 +230,7 @@ impl Account {
                 account: self.holding(ruling.credit, ruling.last),
             },
             Err(refusal) => Policed {
-                outcome: Outcome::Refused(refusal),
+                outcome: Outcome::Refused(refusal.into()),
                 account: self,
             },
         }

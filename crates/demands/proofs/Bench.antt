@@ -20,7 +20,8 @@ use Rattle.rows.specs.Rows.{found_in}
 use Rattle.tables.specs.Rows.{Config, terms_at, link_at, account_in, config_for}
 use Rattle.tables_rules.specs.Rules.{ports_sound, sizes_sound, link_sound, account_good, number_rises, link_good}
 use Rattle.image_layout.specs.Layout.{field_offset, constant_good}
-use Rattle.image_read.specs.Read.{ImageAnswer, good_field, good_accounts, good_links, read_end, read_image}
+use Rattle.image_read.specs.declared.ImageAnswer.{ImageAnswer}
+use Rattle.image_read.specs.Read.{good_field, good_accounts, good_links, read_end, read_image}
 use Rattle.image_field.specs.Checks.{account_fields, field_code, head_good, head_code, in_order, data_octets, is_full, values_good, next_code}
 use Rattle.image_load.specs.Loading.{loading}
 use Rattle.image_fill.specs.Filling.{Runs, runs_of, long_enough, account_rows, link_rows, capacities}

@@ -25,7 +25,8 @@ use Rattle.tables.specs.Rows.{Config, terms_at, link_at}
 use Rattle.switch_verdict.specs.Verdict.{Report, report}
 use Rattle.switch.specs.Call.{State, Call, in_use_by, account_held, decided, called}
 use Rattle.switch.specs.History.{call_answers}
-use Rattle.image_read.specs.Read.{ImageAnswer, read_image}
+use Rattle.image_read.specs.declared.ImageAnswer.{ImageAnswer}
+use Rattle.image_read.specs.Read.{read_image}
 use Rattle.image_read.specs.Bench.{account_p, image_p, answer_p, answered}
 use Rattle.image_read.proofs.Bench.{image_p_reads, case_thirteen}
 use Rattle.image_fill.specs.Filling.{Runs}

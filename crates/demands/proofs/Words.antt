@@ -14,7 +14,8 @@ use Rattle.account_rule.specs.Bucket.{Reached, last_time, rule_holds}
 use Rattle.account_rule.specs.Rule.{allowance, rule_arrived}
 use Rattle.account_rule.proofs.Rule.{in_words}
 use Rattle.tables.specs.Rows.{Config, config_for}
-use Rattle.image_read.specs.Read.{ImageAnswer, read_image}
+use Rattle.image_read.specs.declared.ImageAnswer.{ImageAnswer}
+use Rattle.image_read.specs.Read.{read_image}
 use Rattle.image_load.specs.Loading.{loading}
 use Rattle.image_fill.specs.Filling.{Runs}
 use Rattle.image_load.specs.Fresh.{Fresh}

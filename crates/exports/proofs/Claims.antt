@@ -14,19 +14,19 @@ step_carries : (o : Outcome) → carried (outcome_credit o) ≡ (step_reported o
 step_carries (OutcomeOf.Forwarded c) = refl
 step_carries (OutcomeOf.Short c) = refl
 step_carries (OutcomeOf.Late c) = refl
-step_carries (OutcomeOf.Refused r) = refl
+step_carries (OutcomeOf.Refused n) = refl
 
 mask_carried : (v : Verdict) → carried (verdict_mask v) ≡ (reported v).mask
 mask_carried (VerdictOf.Forwarded m c) = refl
 mask_carried (VerdictOf.Short c) = refl
 mask_carried (VerdictOf.Late c) = refl
-mask_carried (VerdictOf.Refused r) = refl
+mask_carried (VerdictOf.Refused n) = refl
 
 credit_carried : (v : Verdict) → carried (verdict_credit v) ≡ (reported v).credit
 credit_carried (VerdictOf.Forwarded m c) = refl
 credit_carried (VerdictOf.Short c) = refl
 credit_carried (VerdictOf.Late c) = refl
-credit_carried (VerdictOf.Refused r) = refl
+credit_carried (VerdictOf.Refused n) = refl
 
 pub export_figures : ExportFigures
 export_figures =

@@ -6,11 +6,11 @@ use Rattle.std.specs.Prelude.{ℕ, List, [], ◌∷◌, map, ◌≡◌, Some, No
 use Rattle.std.proofs.Math.Option.{Option, none, some}
 use Rattle.codes.specs.Refused.{number_of}
 use Rattle.codes.specs.declared.Refusal.{Refusal}
-use Rattle.account.specs.Step.{stepped, turned_away, step_reported, outcome_credit}
+use Rattle.account.specs.Step.{stepped, step_reported, outcome_credit}
 use Rattle.account.specs.declared.Account.{Account}
 use Rattle.account.specs.declared.Outcome.{Outcome}
 use Rattle.account.specs.declared.Outcome.TheVariants as OutcomeOf
-use Rattle.switch_verdict.specs.Verdict.{reported, refused, verdict_mask, verdict_credit}
+use Rattle.switch_verdict.specs.Verdict.{reported, verdict_mask, verdict_credit}
 use Rattle.switch_verdict.specs.declared.Verdict.{Verdict}
 use Rattle.switch_verdict.specs.declared.Verdict.TheVariants as VerdictOf
 use Rattle.switch.specs.Call.{State, after_of}
@@ -47,8 +47,8 @@ StepFigures =
     → (step_done_of (stepped (OutcomeOf.Forwarded credit) a) ≡ step_done (step_numbers 0 credit) a)
     × (step_done_of (stepped (OutcomeOf.Short credit) a) ≡ step_done (step_numbers 9 credit) a)
     × (step_done_of (stepped (OutcomeOf.Late credit) a) ≡ step_done (step_numbers 8 credit) a)
-    × (step_done_of (turned_away code a) ≡ step_done (step_numbers code 0) a))
-    × ((r : Refusal) (a : Account) → step_done_of (stepped (OutcomeOf.Refused r) a) ≡ step_done (step_numbers (number_of r) 0) a)
+    × (step_done_of (stepped (OutcomeOf.Refused code) a) ≡ step_done (step_numbers code 0) a))
+    × ((r : Refusal) (a : Account) → step_done_of (stepped (OutcomeOf.Refused (number_of r)) a) ≡ step_done (step_numbers (number_of r) 0) a)
 
 -- ---- the frame call: 0 with mask and credit, 9 and 8 with their credit and mask 0, any other code with zeros; and the
 -- state after the call
@@ -63,8 +63,8 @@ CallFigures =
     → (call_done_of (after_of (reported (VerdictOf.Forwarded mask credit)) s) ≡ call_done (call_numbers 0 mask credit) s)
     × (call_done_of (after_of (reported (VerdictOf.Short credit)) s) ≡ call_done (call_numbers 9 0 credit) s)
     × (call_done_of (after_of (reported (VerdictOf.Late credit)) s) ≡ call_done (call_numbers 8 0 credit) s)
-    × (call_done_of (after_of (refused code) s) ≡ call_done (call_numbers code 0 0) s))
-    × ((r : Refusal) (s : State) → call_done_of (after_of (reported (VerdictOf.Refused r)) s) ≡ call_done (call_numbers (number_of r) 0 0) s)
+    × (call_done_of (after_of (reported (VerdictOf.Refused code)) s) ≡ call_done (call_numbers code 0 0) s))
+    × ((r : Refusal) (s : State) → call_done_of (after_of (reported (VerdictOf.Refused (number_of r))) s) ≡ call_done (call_numbers (number_of r) 0 0) s)
 
 -- ---- reading and loading an image
 abbrev pub ImageNumbers : Type 0

@@ -10,7 +10,7 @@ use Rattle.terms.specs.Terms.{terms_with}
 use Rattle.account.specs.Account.{account_of}
 use Rattle.account.specs.Step.{StepReport, Stepped}
 use Rattle.account.specs.declared.Account.{Account}
-use Rattle.image_read.specs.Read.{ImageAnswer}
+use Rattle.image_read.specs.declared.ImageAnswer.{ImageAnswer}
 use Rattle.switch_verdict.specs.Verdict.{Report}
 use Rattle.switch.specs.Call.{State, After}
 use Rattle.receive.specs.Receive.{Received}

@@ -8,7 +8,7 @@ ghost use Rattle.image_write.specs.Writing.{written_of, writing_of, writing};
 ghost use Rattle.exports.specs.Numbers.{loaded_with};
 
 use image_fill::LentRuns;
-use image_read::ImageError;
+use image_read::{ImageAnswer, ImageError};
 use tables::{LentTables, Settings};
 
 // Writes the parts of an answer to the caller's places; returns the code. `length` is the image's length, the offset of
@@ -23,20 +23,12 @@ fn report(
 ) -> u8
     ensures { loaded_with result offset.new constant.new account_count.new link_count.new ≡ answered length answer }
 {
-    let none = Settings {
-        constant: 0,
-        accounts: 0,
-        links: 0,
-    };
-    let (code, at, settings) = match answer {
-        Ok(settings) => (codes::SUCCESS, length, settings),
-        Err(error) => (error.fault.into(), error.offset, none),
-    };
-    *offset = at;
-    *constant = settings.constant;
-    *account_count = settings.accounts;
-    *link_count = settings.links;
-    code
+    let parts = ImageAnswer::of(answer, length);
+    *offset = parts.offset;
+    *constant = parts.settings.constant;
+    *account_count = parts.settings.accounts;
+    *link_count = parts.settings.links;
+    parts.code
 }
 
 // Reads an image with no tables lent: returns the code; writes the rest of the answer.

@@ -16,7 +16,8 @@ use Rattle.tables_rules.specs.Rules.{account_good}
 use Rattle.std.specs.Prelude.{Ok, Err}
 use Rattle.tables.specs.declared.Settings.{Settings}
 use Rattle.image_read.specs.declared.ImageError.{ImageError}
-use Rattle.image_read.specs.Read.{ImageAnswer, answered, image_refused, read_image}
+use Rattle.image_read.specs.declared.ImageAnswer.{ImageAnswer}
+use Rattle.image_read.specs.Read.{answered, image_refused, read_image}
 use Rattle.image_field.specs.Checks.{account_fields, link_fields}
 use Rattle.image_read.proofs.Accepted.{accepted, counted_account, good_account}
 use Rattle.image_read.proofs.Reading.{no_fault}

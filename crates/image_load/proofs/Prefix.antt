@@ -10,7 +10,8 @@ use lib.Seq.{take_all}
 use borrow.Author.Tests.{eqb-true, eqb-false}
 use Rattle.lists.proofs.Tests.{split}
 use Rattle.image_layout.specs.Layout.{field_offset, image_prefix}
-use Rattle.image_read.specs.Read.{ImageAnswer, read_image}
+use Rattle.image_read.specs.declared.ImageAnswer.{ImageAnswer}
+use Rattle.image_read.specs.Read.{read_image}
 use Rattle.image_read.proofs.Accepted.{accepted}
 use Rattle.image_read.proofs.Prefix.{prefix_read}
 use Rattle.image_read.proofs.Reading.{few_read}

@@ -3,7 +3,8 @@
 use Rattle.std.specs.Prelude.{ℕ, not, List, length, eqb}
 use Rattle.codes.specs.Codes
 use Rattle.std.specs.Prelude.{if◌then◌else◌}
-use Rattle.image_read.specs.Read.{ImageAnswer, image_refused, read_image}
+use Rattle.image_read.specs.declared.ImageAnswer.{ImageAnswer}
+use Rattle.image_read.specs.Read.{image_refused, read_image}
 use Rattle.image_fill.specs.Filling.{Runs, runs_hold, filled}
 
 -- an answer of loading, with the runs after loading

@@ -14,7 +14,8 @@ use Rattle.lists.proofs.Leading.{leading_before, leading_fails}
 use Rattle.fields.specs.Fields.{tag_and_length, field_at}
 use Rattle.fields.specs.declared.Field.{Field}
 use Rattle.image_layout.specs.Layout.{head_tag, account_tag, link_tag, end_tag, head_octets, field_offset, image_length, max_accounts, max_links}
-use Rattle.image_read.specs.Read.{ImageAnswer, good_field, good_accounts, good_links, read_image}
+use Rattle.image_read.specs.declared.ImageAnswer.{ImageAnswer}
+use Rattle.image_read.specs.Read.{good_field, good_accounts, good_links, read_image}
 use Rattle.image_field.specs.Checks.{field_code, head_good, head_code, account_fields, link_fields, in_order, data_octets, is_full, values_good, tag_at, next_code}
 use Rattle.image_read.proofs.Reading.{by_end, by_reading}
 

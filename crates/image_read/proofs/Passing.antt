@@ -7,7 +7,7 @@ use mathlib.Core.Path.{◌≡◌, refl, sym, ap, ap₂, ◌∙◌}
 use native.Mathlib.Omega.{arith}
 use lib.Dec.{eqb}
 use lib.ListN.{length, get_or}
-use borrow.Author.Tests.{lt-leb, eq-eqb, ne_eqb, eqb-true}
+use borrow.Author.Tests.{le-leb, lt-leb, eq-eqb, ne_eqb, eqb-true}
 use Rattle.octets.specs.Numbers.{number_at}
 use Rattle.lists.proofs.Tests.{split, both}
 use Rattle.tables.specs.Rows.{account_octets, link_octets, settings_of}
@@ -126,6 +126,19 @@ module _ (s : List ℕ) (n j at : ℕ) (p : at ≡ field_offset n j) (b : Bool) 
   pub link_valued : b ≡ true → 1 ≤ n → j < max_links → (v : Bool) → v ≡ link_good (account_fields s) (link_fields s n) n j → v ≡ good_field s link_tag n j
   unfolding data_octets is_full values_good
   link_valued h o l = field_valued s link_tag n j at p b e h (link_ordered n j o) (lt-leb _ _ l)
+
+-- an account or a link over the limit is not good
+not_full : (s : List ℕ) (tag n m : ℕ) → is_full tag n m ≡ true → false ≡ good_field s tag n m
+not_full s tag n m e =
+    split (good_field s tag n m) (λ g. absurd (false≢true (sym (good_passes s tag n m g).few ∙ e))) (λ g. sym g)
+
+pub account_over : (s : List ℕ) (i : ℕ) → max_accounts ≤ i → false ≡ good_field s account_tag i 0
+unfolding is_full
+account_over s i h = not_full s account_tag i 0 (le-leb max_accounts i h)
+
+pub link_over : (s : List ℕ) (n j : ℕ) → max_links ≤ j → false ≡ good_field s link_tag n j
+unfolding is_full
+link_over s n j h = not_full s link_tag n j (le-leb max_links j h)
 
 -- there is no link before the first account
 pub links_none : (s : List ℕ) (n : ℕ) → n ≡ 0 → 0 ≡ good_links s n

@@ -14,7 +14,8 @@ use Rattle.octets.specs.Numbers.{number_at}
 use Rattle.lists.proofs.Tests.{split}
 use Rattle.lists.proofs.Leading.{leading_high}
 use Rattle.image_layout.specs.Layout.{account_tag, link_tag, field_offset, data_offset, image_length, max_accounts, max_links}
-use Rattle.image_read.specs.Read.{ImageAnswer, good_field, good_accounts, good_links, image_refused, read_end, read_image}
+use Rattle.image_read.specs.declared.ImageAnswer.{ImageAnswer}
+use Rattle.image_read.specs.Read.{good_field, good_accounts, good_links, image_refused, read_end, read_image}
 use Rattle.image_field.specs.Checks.{head_code, next_code}
 
 -- no fault has the number of success

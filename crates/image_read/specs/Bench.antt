@@ -5,7 +5,8 @@ use Rattle.terms.specs.declared.Terms.{Terms}
 use Rattle.tables.specs.Rows.{Config, account_in, link_in, settings_of}
 use Rattle.tables.specs.declared.Link.{Link}
 use Rattle.image_layout.specs.Layout.{image_of}
-use Rattle.image_read.specs.Read.{ImageAnswer, read_image}
+use Rattle.image_read.specs.declared.ImageAnswer.{ImageAnswer}
+use Rattle.image_read.specs.Read.{read_image}
 use Rattle.image_field.specs.Checks.{account_fields, link_fields}
 
 abbrev pub account_p : List ℕ

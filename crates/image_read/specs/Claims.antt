@@ -6,7 +6,8 @@ use Rattle.std.specs.Prelude.{if◌then◌else◌}
 use Rattle.image_layout.specs.Layout.{account_tag, link_tag, end_tag, image_length, max_accounts, max_links, longest_image, image_prefix}
 use Rattle.octets.specs.Numbers.{number_at}
 use Rattle.tables.specs.Rows.{settings_of}
-use Rattle.image_read.specs.Read.{ImageAnswer, good_field, good_accounts, good_links, image_refused, read_end, read_image}
+use Rattle.image_read.specs.declared.ImageAnswer.{ImageAnswer}
+use Rattle.image_read.specs.Read.{good_field, good_accounts, good_links, image_refused, read_end, read_image}
 use Rattle.image_field.specs.Checks.{head_code, next_code, tag_at}
 
 -- demand 1: the codes that reading can answer

@@ -9,6 +9,7 @@ use Rattle.tables.specs.Rows.{settings_of}
 use Rattle.tables.specs.declared.Settings.{Settings}
 use Rattle.image_layout.specs.Layout.{account_tag, link_tag, field_offset, image_length, max_accounts, max_links, constant_of}
 use Rattle.image_field.specs.Checks.{head_code, next_code, tag_at}
+use Rattle.image_read.specs.declared.ImageAnswer.{ImageAnswer}
 use Rattle.image_read.specs.declared.ImageError.{ImageError}
 
 -- ---- whether a field has a tag and is good; how many good accounts stand after the head, and how many good links
@@ -22,14 +23,8 @@ good_accounts s = leading (λ i. good_field s account_tag i 0) max_accounts
 unfoldable pub good_links : List ℕ → ℕ → ℕ
 good_links s n = leading (λ j. good_field s link_tag n j) max_links
 
--- ---- the answers of reading or loading an image: the code, the offset of the code, and on success the settings that the
--- image names
-pub record ImageAnswer : Type 0 where
-  pub code : ℕ
-  pub offset : ℕ
-  pub settings : Settings
-
--- the answer that a result of the code stands for, with the image's length: success answers that length
+-- ---- the answers of reading or loading an image: what a result of the code stands for, with the image's length, which success
+-- answers
 abbrev pub answered : ℕ → Result Settings ImageError → ImageAnswer
 answered size (Ok q) = record { code = Codes.success; offset = size; settings = q }
 answered size (Err e) = record { code = fault_number e.fault; offset = e.offset; settings = settings_of 0 0 0 }

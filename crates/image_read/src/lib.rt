@@ -17,6 +17,37 @@ pub struct ImageError {
     pub offset: usize,
 }
 
+// What reading or loading an image answers, in numbers: the code, the offset of the code, and on success the settings that the
+// image names.
+#[derive(Clone, Copy)]
+pub struct ImageAnswer {
+    pub code: u8,
+    pub offset: usize,
+    pub settings: Settings,
+}
+
+impl ImageAnswer {
+    // The numbers of an answer: success has the image's length for its offset, a refusal settings of 0.
+    pub fn of(answer: Result<Settings, ImageError>, length: usize) -> ImageAnswer
+        ensures { result ≡ answered length answer }
+    {
+        let none = Settings {
+            constant: 0,
+            accounts: 0,
+            links: 0,
+        };
+        let (code, offset, settings) = match answer {
+            Ok(settings) => (codes::SUCCESS, length, settings),
+            Err(error) => (error.fault.into(), error.offset, none),
+        };
+        ImageAnswer {
+            code,
+            offset,
+            settings,
+        }
+    }
+}
+
 // The settings that an image names, whatever its octets.
 #[tactic(auto, unfolding(crate::specs::Read::read_image))]
 pub fn check(image: &[u8]) -> Result<Settings, ImageError>

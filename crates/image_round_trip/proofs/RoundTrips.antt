@@ -22,7 +22,8 @@ use Rattle.tables.proofs.Rows.{terms_part, link_part}
 use Rattle.tables_rules.proofs.Rules.{account_good_same, link_good_same}
 use Rattle.fields.specs.Fields.{tag_and_length, field_of, stands_at}
 use Rattle.image_layout.specs.Layout.{head_tag, account_tag, link_tag, end_tag, edition, head_octets, head_size, account_size, link_size, field_offset, data_offset, image_length, max_accounts, max_links, constant_good, image_of}
-use Rattle.image_read.specs.Read.{ImageAnswer, good_field, read_image}
+use Rattle.image_read.specs.declared.ImageAnswer.{ImageAnswer}
+use Rattle.image_read.specs.Read.{good_field, read_image}
 use Rattle.image_field.specs.Checks.{head_code, account_fields, link_fields, data_octets, tag_at, next_code}
 use Rattle.image_load.specs.Loading.{loading_of, loading}
 use Rattle.image_fill.specs.Filling.{runs_hold, Runs, runs_of, account_rows, link_rows, capacities, filled}

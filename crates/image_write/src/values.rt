@@ -9,6 +9,7 @@ ghost use Rattle.image_write.specs.Writing.{written_by, value_answer};
 
 use codes::Fault;
 use image_read::ImageError;
+use lists::Test;
 use rows::SpacedRows;
 use tables::LentTables;
 
@@ -23,18 +24,48 @@ fn touching(octets: &[u8], step: u8) -> SpacedRows
     }
 }
 
+// Whether an account row has no bad value.
+#[derive(Drop)]
+struct GoodAccounts<'a> {
+    accounts: SpacedRows<'a>,
+}
+
+impl Test for GoodAccounts<'_> {
+    ghost passes = { λ test i. account_good (rows_of test.accounts) i };
+
+    fn passes(&self, i: u16) -> bool {
+        tables_rules::account_good(self.accounts, i)
+    }
+}
+
+// Whether a link row has no bad value and names one of the first n accounts.
+#[derive(Drop)]
+struct GoodLinks<'a> {
+    accounts: SpacedRows<'a>,
+    n: u16,
+    links: SpacedRows<'a>,
+}
+
+impl Test for GoodLinks<'_> {
+    ghost passes = { λ test j. link_good (rows_of test.accounts) (rows_of test.links) test.n j };
+
+    fn passes(&self, j: u16) -> bool {
+        tables_rules::link_good(self.accounts, self.n, self.links, j)
+    }
+}
+
 // The first of n account rows with a bad value, n where no row has one.
 fn bad_account(accounts: SpacedRows, n: u16) -> u16
     ensures { result ≡ leading (account_good (rows_of accounts.entry)) n }
 {
-    lists::first_failing(n, |i| tables_rules::account_good(accounts, i))
+    lists::first_failing(n, &GoodAccounts { accounts })
 }
 
 // The first of m link rows with a bad value, m where no row has one.
 fn bad_link(accounts: SpacedRows, n: u16, links: SpacedRows, m: u16) -> u16
     ensures { result ≡ leading (link_good (rows_of accounts.entry) (rows_of links.entry) n) m }
 {
-    lists::first_failing(m, |j| tables_rules::link_good(accounts, n, links, j))
+    lists::first_failing(m, &GoodLinks { accounts, n, links })
 }
 
 // The length of the image, if no value is bad; otherwise the fault's offset is the one that the first bad field would have.

@@ -100,7 +100,7 @@ module _ (f : ℕ → Bool) where
       reach zero a = leading_zero
       reach (suc j) a = leading_on j (reach j (λ k l. a k (omega arith))) (a j (omega arith))
 
-  -- what the code's `first_failing` promises is the count
+  -- a number up to which all pass, and at which one fails unless it is all items, is the count
   pub leading_found : (n i : ℕ) → i ≤ n → ((k : ℕ) → k < i → f k ≡ true) → (i < n → f i ≡ false) → i ≡ leading f n
   leading_found n i h all end = sym (leading_is i n h all end)
 
@@ -109,3 +109,14 @@ pub leading_same : (f g : ℕ → Bool) (n : ℕ) → ((k : ℕ) → k < n → f
 unfolding leading
 leading_same f g zero h = refl
 leading_same f g (suc n) h = rw (leading_same f g n (λ k l. h k (omega arith)), h n (omega arith))
+
+-- ---- a counting loop: i items seen, the test of item i in hand
+module _ (f : ℕ → Bool) (i : ℕ) (s : leading f i ≡ i) (r : Bool) (e : r ≡ f i) where
+  pub count_stops : (n : ℕ) → i < n → r ≡ false → i ≡ leading f n
+  count_stops n h q = sym (leading_stop f i n s (sym e ∙ q) h)
+
+  pub count_goes_on : r ≡ true → leading f (suc i) ≡ suc i
+  count_goes_on q = leading_on f i s (sym e ∙ q)
+
+pub count_full : (f : ℕ → Bool) (i n : ℕ) → leading f i ≡ i → n ≤ i → i ≤ n → i ≡ leading f n
+count_full f i n s h k = let e : i ≡ n = omega arith in sym s ∙ ap (leading f) e

@@ -2,17 +2,24 @@
 // and tables of codes; and in code the count of consecutive items, from the first, that pass a test.
 #![tactic(auto)]
 
-ghost use Rattle.std.specs.Prelude.{ℕ, Bool, true, false, ◌≡◌, ◌≤◌, ◌<◌};
+ghost use Rattle.std.specs.Prelude.{ℕ, Bool, ◌≡◌};
+ghost use Rattle.lists.specs.Leading.{leading};
+
+// A test of items by their index.
+pub trait Test {
+    // Whether the item passes.
+    ghost passes: { Self → ℕ → Bool };
+
+    fn passes(&self, i: u16) -> bool
+        ensures { result ≡ passes self.now i };
+}
 
 // The first of n items that fails a test, n where all items pass.
-pub fn first_failing<F: Fn(u16) -> bool>(n: u16, passes: F) -> u16
-    requires { (i : ℕ) → i < n → F.pre passes i }
-    ensures within { result ≤ n }
-    ensures passing { (i : ℕ) → i < result → F.post passes i true }
-    ensures failing { result < n → F.post passes result false }
+pub fn first_failing<T: Test>(n: u16, test: &T) -> u16
+    ensures { result ≡ leading (T.passes test.now) n }
 {
     for i in 0..n {
-        if !passes(i) {
+        if !test.passes(i) {
             return i;
         }
     }

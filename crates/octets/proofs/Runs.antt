@@ -1,17 +1,20 @@
 -- Laws of runs written into a longer run. Assumes nothing.
-use Prim.Native.Nat.{ℕ, ◌+◌, ◌-◌, ◌≤◌, ◌<◌}
+use Prim.Native.Nat.{ℕ, ◌+◌, ◌-◌, ◌/◌, ◌%◌, ◌^◌, ◌≤◌, ◌<◌}
 use mathlib.Core.Path.{◌≡◌, sym, ap, ◌∙◌}
 use mathlib.Core.Bool.{Bool, false}
 use mathlib.Core.List.{List, [], ◌∷◌, ◌++◌, append_assoc, append-nil}
 use native.Mathlib.Omega.{arith}
-use native.Mathlib.Nat.{add-zero, zero-add, add_assoc}
+use native.Mathlib.Nat.{add-zero, zero-add, add_assoc, mod-eq_of_lt, div-lt_iff_lt-mul}
+use native.Mathlib.Numerals.{add-one}
 use lib.Dec.{leb}
 use lib.ListN.{length, get_or, take, drop, set, length-append, length-drop, take-append-drop, get_or-append}
 use lib.Seq.{length-take-le, take_at, drop-append-add, drop-drop, get_or-append-add, get_or-drop, sets-eq, take-add}
 use borrow.Rule.Slice.PartMut.{put_mid}
 use borrow.Author.Tests.{leb-true, leb-false, le-leb, lt-leb}
 use Rattle.std.proofs.lemmas.List.{drop_all}
+use Rattle.octets.specs.Numbers.{octets_of}
 use Rattle.octets.specs.Runs.{octets_at, put}
+use Rattle.octets.proofs.Numbers.{length_octets, octets_join, octets_low}
 use Rattle.octets.proofs.Parts.{length_part, part_take}
 use Rattle.lists.proofs.Tests.{split}
 use Rattle.octets.proofs.Tests.{fits_not}
@@ -84,6 +87,28 @@ module _ (d : List ℕ) (at : ℕ) (xs : List ℕ) where
       rw f (rw (length_front k) at (drop-append-add (take at d ++ xs) (drop (at + length xs) d) (length ys)) ∙ drop-drop (length ys) (at + length xs) d) in
       put_fits (put d at xs) (at + length xs) ys (rw length_put h)
       ∙ rw (a, b) (sym (put_fits d at (xs ++ ys) m ∙ simp (length-append, append_assoc, add_assoc)))
+
+-- a number of two octets stored
+pub put_two : (d : List ℕ) (at x : ℕ) → x < 2 ^ 16 → at + 2 ≤ length d → set (set d at (x / 256)) (at + 1) (x % 256) ≡ put d at (octets_of 2 x)
+unfolding octets_of
+put_two d at x f h =
+    let q : x / 256 % 256 ≡ x / 256 = mod-eq_of_lt ((div-lt_iff_lt-mul {k = 256} {x = x} {y = 256} (omega arith)).1 f) in
+    ap (λ (high : ℕ). set (set d at high) (at + 1) (x % 256)) (sym q)
+    ∙ rw (add-one at) (sets-eq (x / 256 % 256 ∷ x % 256 ∷ []) d at h ∙ sym (put_fits d at (x / 256 % 256 ∷ x % 256 ∷ []) h))
+
+-- a number's two halves written side by side
+pub put_halves : (w : ℕ) (d : List ℕ) (at x : ℕ) → at + (w + w) ≤ length d
+    → put (put d at (octets_of w (x / 256 ^ w))) (at + w) (octets_of w (x % 256 ^ w)) ≡ put d at (octets_of (w + w) x)
+put_halves w d at x h =
+    let l = length_octets w (x / 256 ^ w) in
+    let m = length_octets w x in
+    ap (λ (xs : List ℕ). put (put d at (octets_of w (x / 256 ^ w))) (at + w) xs) (octets_low w x)
+    ∙ (rw l at (put_beside d at (octets_of w (x / 256 ^ w)) (octets_of w x) (omega arith)))
+    ∙ ap (put d at) (sym (octets_join w w x))
+
+pub put_both : (w : ℕ) (d : List ℕ) (at x : ℕ) (e f : List ℕ) → at + (w + w) ≤ length d
+    → e ≡ put d at (octets_of w (x / 256 ^ w)) → f ≡ put e (at + w) (octets_of w (x % 256 ^ w)) → f ≡ put d at (octets_of (w + w) x)
+put_both w d at x e f h p q = q ∙ ap (λ (r : List ℕ). put r (at + w) (octets_of w (x % 256 ^ w))) p ∙ put_halves w d at x h
 
 -- where the test finds no room, nothing is written
 pub put_refused : (d : List ℕ) (at : ℕ) (xs : List ℕ) (r : Bool) (size : ℕ) → r ≡ leb (at + size) (length d) → length xs ≡ size → r ≡ false → d ≡ put d at xs

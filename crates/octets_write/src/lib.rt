@@ -2,7 +2,7 @@
 // function is total: what has no room is not written at all.
 #![tactic(auto)]
 
-ghost use Rattle.std.specs.Prelude.{◌≡◌, length};
+ghost use Rattle.std.specs.Prelude.{◌≡◌, ◌+◌, ◌≤◌, length};
 ghost use Rattle.octets.specs.Numbers.{octets_of};
 ghost use Rattle.octets.specs.Runs.{octets_at, put};
 
@@ -18,27 +18,36 @@ pub fn put_number<N: Number>(to: &mut [u8], at: usize, number: N)
     }
 }
 
-// Fills a run with the octets of another run from `at` on; an octet past the end is 0.
-#[tactic(auto, using(octets::proofs::Parts::part_take))]
-fn fill_from(to: &mut [u8], from: &[u8], at: usize)
+// Fills a run with octets that are all inside another run, from `at` on, with no test for each octet.
+fn copy_whole(from: &[u8], at: usize, to: &mut [u8])
+    requires { at + length to.old ≤ length from.now }
     ensures { to.new ≡ octets_at (length to.old) from.now at }
 {
-    let size = to.len();
-    if octets::has_room(from.len(), at, size) {
-        to.copy_from_slice(&from[at..at + size]);
-        return;
+    for (i, octet) in to.iter_mut().enumerate() {
+        *octet = from[at + i];
     }
-    let rest = &from[at.min(from.len())..];
-    let (front, after) = to.split_at_mut(rest.len().min(to.len()));
-    front.copy_from_slice(&rest[..front.len()]);
-    after.fill(0);
+}
+
+// Fills a run with the octets of another run from `at` on, of which some are past the end, and so 0.
+fn copy_padded(from: &[u8], at: usize, to: &mut [u8])
+    ensures { to.new ≡ octets_at (length to.old) from.now at }
+{
+    let start = at.min(from.len());
+    for (i, octet) in to.iter_mut().enumerate() {
+        *octet = octets::octet_at(from, start + i);
+    }
 }
 
 // Copies `size` octets of a run from `at` on to an offset in another run; an octet past the end is copied as 0.
 pub fn copy(from: &[u8], at: usize, size: usize, to: &mut [u8], offset: usize)
     ensures { to.new ≡ put to.old offset (octets_at size from.now at) }
 {
-    if octets::has_room(to.len(), offset, size) {
-        fill_from(&mut to[offset..offset + size], from, at);
+    if !octets::has_room(to.len(), offset, size) {
+        return;
+    }
+    if octets::has_room(from.len(), at, size) {
+        copy_whole(from, at, &mut to[offset..offset + size]);
+    } else {
+        copy_padded(from, at, &mut to[offset..offset + size]);
     }
 }

@@ -68,6 +68,14 @@ pub(crate) fn print(rt: HostRuntime, out: &[u8], written: usize) -> Result<(), S
     }
 }
 
+// How a replay that is over ended.
+fn status_of(stop: Stop) -> Result<(), Status> {
+    match stop {
+        Stop::CutOff => Err(Status::LogCut),
+        _ => Ok(()),
+    }
+}
+
 // Turn after turn until the replay is over. The turns are counted, since nothing says that a file ends.
 pub(crate) fn run(
     rt: HostRuntime,
@@ -82,10 +90,8 @@ pub(crate) fn run(
         let end = log.filled.min(log.octets.len());
         progress = rig.turn(&log.octets[..end], log.whole, from, out);
         print(rt, out, progress.written)?;
-        match progress.stop {
-            Stop::Finished => return Ok(()),
-            Stop::CutOff => return Err(Status::LogCut),
-            Stop::Octets | Stop::Room => (),
+        if progress.stop.is_over() {
+            return status_of(progress.stop);
         }
     }
     Err(Status::ReadFailed)

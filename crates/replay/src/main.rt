@@ -55,18 +55,14 @@ fn replay_image(rt: HostRuntime, image: &[u8]) -> Status {
     let mut rig = Rig::new();
     let mut out = [0u8; WRITE_OCTETS];
     let loaded = rig.load(image);
-    let (code, offset) = match loaded {
-        Ok(()) => (codes::SUCCESS, image.len()),
-        Err(error) => (error.fault.into(), error.offset),
-    };
-    let start = replay_turn::begin(code, offset, &mut out);
+    let start = replay_turn::begin(loaded.code, loaded.offset, &mut out);
     if let Err(status) = log::print(rt, &out, start.written) {
         return status;
     }
-    match loaded {
-        Ok(()) => replay_log(rt, &mut rig, start, &mut out),
-        Err(_) => Status::ImageRefused,
+    if start.stop.is_over() {
+        return Status::ImageRefused;
     }
+    replay_log(rt, &mut rig, start, &mut out)
 }
 
 // Replays the rig; returns how that ended. No more of `rig.cfg` is read than settles its answer.

@@ -1,6 +1,6 @@
 // A rig: the tables that its image holds, and the state of its accounts.
 use image_fill::LentRuns;
-use image_read::ImageError;
+use image_read::ImageAnswer;
 use replay_turn::Progress;
 use tables::{LentTables, Settings};
 
@@ -37,16 +37,17 @@ impl Rig {
         }
     }
 
-    // Loads an image.
-    pub(crate) fn load(&mut self, image: &[u8]) -> Result<(), ImageError> {
+    // Loads an image; returns what that answers.
+    pub(crate) fn load(&mut self, image: &[u8]) -> ImageAnswer {
         let mut runs = LentRuns {
             accounts: &mut self.accounts,
             credits: &mut self.credits,
             lasts: &mut self.lasts,
             links: &mut self.links,
         };
-        self.settings = image_load::load(image, &mut runs)?;
-        Ok(())
+        let answer = ImageAnswer::of(image_load::load(image, &mut runs), image.len());
+        self.settings = answer.settings;
+        answer
     }
 
     // A turn of the replay on the octets at hand.

@@ -21,8 +21,7 @@ long_frame_skipped g s log r h =
     let os : List ℕ = octets_at r.size log r.start in
     let n : length os ≡ r.size = length_part r.size log r.start in
     let l : largest_frame < length os = omega arith in
-    let two = called_long g s os r.port r.time l in
-    (two, two)
+    called_long g s os r.port r.time l
 
 -- the record is the one that was spelled, so its call is on the frame, the port and the time that were
 pub record_answered : RecordAnswered

@@ -3,9 +3,8 @@ use Rattle.std.specs.Prelude.{ℕ, ◌+◌, ◌^◌, ◌<◌, Bool, List, ◌++�
 use Rattle.octets.specs.Runs.{put}
 use Rattle.frame.specs.Limits.{largest_frame}
 use Rattle.tables.specs.Rows.{Config}
-use Rattle.codes.specs.declared.Refusal.TheVariants.{TooLong}
 use Rattle.switch_verdict.specs.declared.Verdict.TheVariants.{Refused}
-use Rattle.switch_verdict.specs.Verdict.{refused, reported}
+use Rattle.switch_verdict.specs.Verdict.{reported}
 use Rattle.switch.specs.Call.{State, call_of, After, after_of, called}
 use Rattle.replay_log.specs.Claims.{record_of}
 use Rattle.replay_log.specs.Records.{next_in}
@@ -13,12 +12,11 @@ use Rattle.replay_log.specs.declared.FrameRecord.{FrameRecord}
 use Rattle.replay_log.specs.declared.Entry.TheVariants.{Frame}
 use Rattle.replay_answer.specs.Answer.{record_call, replied_of, replied}
 
--- a frame longer than any is answered 2, which is the refusal of a frame that is too long, and nothing changes
+-- a frame longer than any is answered 2, and nothing changes
 abbrev pub LongFrameSkipped : Type 0
 LongFrameSkipped =
     (g : Config) (s : State) (log : List ℕ) (r : FrameRecord) → largest_frame < r.size
-    → (called g s (record_call log r) ≡ after_of (refused 2) s)
-    × (called g s (record_call log r) ≡ after_of (reported (Refused TooLong)) s)
+    → called g s (record_call log r) ≡ after_of (reported (Refused 2)) s
 
 -- a record that is spelled in a log is answered as the frame call answers its own frame, port and time; the buffer then begins
 -- with the frame where it has room for it

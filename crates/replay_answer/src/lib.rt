@@ -28,7 +28,7 @@ pub fn answer(
 {
     octets_write::copy(log, logged.start, logged.size, buffer, 0);
     let Some(frame) = buffer.get(..logged.size) else {
-        return Verdict::Refused(Refusal::TooLong);
+        return Verdict::Refused(Refusal::TooLong.into());
     };
     let ingress = Ingress {
         port: logged.port as u32,

@@ -18,7 +18,7 @@ pub credit_named : (v : Verdict) → credit_of (verdict_credit v) ≡ (reported 
 credit_named (Forwarded m c) = refl
 credit_named (Short c) = refl
 credit_named (Late c) = refl
-credit_named (Refused r) = refl
+credit_named (Refused n) = refl
 
 module _ (v : Verdict) (number code : ℕ) (o : Option ℕ) (e : code ≡ (reported v).code) (f : o ≡ verdict_credit v) where
   pub line_named : frame_line number code (credit_of o) ≡ line_of number (reported v)

@@ -24,14 +24,14 @@ pub fn longest_line() -> usize
 }
 
 // A credit or a dash, and the line's end, appended at an offset.
-#[tactic(auto, using(crate::proofs::Lines::credit_fits))]
+#[tactic(auto, using(crate::proofs::Lines::credit_fits), unfolding(octets::specs::Runs::octets_at))]
 fn put_credit(line: &mut [u8], at: usize, credit: Option<u32>) -> usize
     ensures word_put { appended_of result line.new ≡ appended line.old at (credit_word (credit_of credit)) }
     ensures fits { length (credit_word (credit_of credit)) ≤ 11 }
 {
     match credit {
         Some(credit) => replay_words::put_word(line, at, credit as u64, LINE_END),
-        None => replay_words::put_text(b"-\n", line, at),
+        None => replay_words::put_text(b"-\n", 2, line, at),
     }
 }
 
@@ -45,7 +45,7 @@ pub fn put_line(out: &mut [u8], at: usize, number: u64, verdict: Verdict) -> usi
     let a = replay_words::put_word(&mut line, 0, number, SPACE);
     let b = replay_words::put_word(&mut line, a, verdict.code() as u64, SPACE);
     let c = put_credit(&mut line, b, verdict.credit());
-    replay_words::put_text(&line[..c], out, at)
+    replay_words::put_text(&line, c, out, at)
 }
 
 // The line of a refused image.
@@ -53,22 +53,24 @@ pub fn put_refused_image(out: &mut [u8], at: usize, code: u8, offset: usize) -> 
     ensures { appended_of result out.new ≡ appended out.old at (refused_line code offset) }
 {
     let mut line = [0u8; LONGEST_LINE];
-    let a = replay_words::put_text(b"image ", &mut line, 0);
+    let a = replay_words::put_text(b"image ", 6, &mut line, 0);
     let b = replay_words::put_word(&mut line, a, code as u64, SPACE);
     let c = replay_words::put_word(&mut line, b, offset as u64, LINE_END);
-    replay_words::put_text(&line[..c], out, at)
+    replay_words::put_text(&line, c, out, at)
 }
 
 // The first line of a replay.
+#[tactic(auto, unfolding(octets::specs::Runs::octets_at))]
 pub fn put_header(out: &mut [u8], at: usize) -> usize
     ensures { appended_of result out.new ≡ appended out.old at header_line }
 {
-    replay_words::put_text(b"# frame code credit\n", out, at)
+    replay_words::put_text(b"# frame code credit\n", 20, out, at)
 }
 
 // The last line of a log that is cut.
+#[tactic(auto, unfolding(octets::specs::Runs::octets_at))]
 pub fn put_cut(out: &mut [u8], at: usize) -> usize
     ensures { appended_of result out.new ≡ appended out.old at cut_line }
 {
-    replay_words::put_text(b"cut\n", out, at)
+    replay_words::put_text(b"cut\n", 4, out, at)
 }

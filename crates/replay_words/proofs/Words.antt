@@ -1,18 +1,15 @@
 -- Laws of words and lines written one after the other. Assumes nothing.
 use Prim.Native.Nat.{ℕ, ◌+◌, ◌^◌, ◌≤◌, ◌<◌}
-use mathlib.Core.Path.{◌≡◌, refl, sym, ap, ap₂, ◌∙◌}
+use mathlib.Core.Path.{◌≡◌, sym, ap, ap₂, ◌∙◌}
 use mathlib.Core.Bool.{Bool, true, false}
-use mathlib.Core.List.{List, [], ◌∷◌, ◌++◌, append_assoc}
-use native.Mathlib.Nat.{zero-add}
+use mathlib.Core.List.{List, [], ◌∷◌, ◌++◌}
 use native.Mathlib.Omega.{arith}
-use Rattle.lists.proofs.Tests.{split}
 use lib.Dec.{leb}
-use lib.ListN.{length, take, drop, set, length-append}
-use lib.Seq.{drop-drop, length-take-le, take_at}
-use borrow.Rule.Slice.PartMut.{put_mid}
-use borrow.Author.Tests.{le-leb, lt-leb, leb-true}
-use Rattle.octets.specs.Runs.{put}
-use Rattle.octets.proofs.Runs.{put_fits, put_no_room, put_after, put_next, length_put}
+use lib.ListN.{length, get_or, set, length-append}
+use borrow.Author.Tests.{le-leb, lt-leb}
+use Rattle.octets.specs.Runs.{octets_at, put}
+use Rattle.octets.proofs.Runs.{put_no_room, put_after, put_next, length_put, get_d_put}
+use Rattle.octets.proofs.Parts.{length_part, part_is}
 use Rattle.octets.proofs.Tests.{fits, fits_not}
 use Rattle.replay_words.specs.Digits.{digits_of, width_of}
 use Rattle.replay_words.specs.Words.{word_of, Appended, appended_of, appended, next_offset}
@@ -28,20 +25,23 @@ module _ (d : List ℕ) (at : ℕ) (xs : List ℕ) where
   unfolding next_offset
   appended_not e h f = simp (f, lt-leb (at + length xs) (length d) h)
 
-  -- by the test of room for it
-  module _ (b : Bool) (f : b ≡ leb (at + length xs) (length d)) where
-    pub text_not : b ≡ false → appended_of at d ≡ appended d at xs
-    text_not h =
-        let l : length d < at + length xs = fits_not _ _ _ _ f h in
-        appended_not d l (sym (put_no_room d at xs l))
+-- the first n octets of a text written, by the test of room for them
+module _ (d : List ℕ) (at : ℕ) (s : List ℕ) (n : ℕ) (b : Bool) (f : b ≡ leb (at + n) (length d)) where
+  size : length (octets_at n s 0) ≡ n
+  size = length_part n s 0
 
-    pub text_appended : b ≡ true → (n : ℕ) (ys : List ℕ) → n ≡ length xs → ys ≡ xs → appended_of (at + length xs) (put_mid at n d ys) ≡ appended d at xs
-    text_appended h n ys p q =
-        let l : at + length xs ≤ length d = fits _ _ _ _ f h in
-        appended_there (put_mid at n d ys) l (over n ys p q ∙ sym (put_fits d at xs l))
-      where
-        over : (n : ℕ) (ys : List ℕ) → n ≡ length xs → ys ≡ xs → put_mid at n d ys ≡ take at d ++ xs ++ drop (at + length xs) d
-        over n ys p q = rw (p, q) (ap (λ (r : List ℕ). take at d ++ (xs ++ r)) (drop-drop (length xs) at d) ∙ sym (append_assoc (take at d) xs _))
+  pub text_not : b ≡ false → appended_of at d ≡ appended d at (octets_at n s 0)
+  text_not h =
+      let r : length d < at + n = fits_not _ _ _ _ f h in
+      let z = size in
+      let l : length d < at + length (octets_at n s 0) = omega arith in
+      appended_not d at (octets_at n s 0) d l (sym (put_no_room d at (octets_at n s 0) l))
+
+  pub text_appended : b ≡ true → (e : List ℕ) → e ≡ put d at (octets_at n s 0) → appended_of (at + n) e ≡ appended d at (octets_at n s 0)
+  text_appended h e p =
+      let r : at + n ≤ length d = fits _ _ _ _ f h in
+      let z = size in
+      ap (λ (i : ℕ). appended_of (at + i) e) (sym z) ∙ appended_there d at (octets_at n s 0) e (omega arith) p
 
 -- ---- a number and the character after it
 pub length_word : (x m : ℕ) → length (word_of x m) ≡ width_of x + 1
@@ -97,41 +97,22 @@ appended_after d at xs ys a b e f h p q =
     appended_room e a ys b f q ∙ ap (λ (s : List ℕ). put s a ys) (appended_room d at xs a e p) ∙ put_after d at xs ys a i (omega arith) in
     ap (λ (c : ℕ). appended_of c f) k ∙ appended_there d at (xs ++ ys) f (omega arith) g
 
--- what was written from the start of a room stands before the offset after it
-appended_part : (d xs : List ℕ) (c : ℕ) (g : List ℕ) → length xs ≤ length d → appended_of c g ≡ appended d 0 xs → take c g ≡ xs
+-- what was written from the start of a room is the part up to the offset after it
+pub appended_part : (d xs : List ℕ) (c : ℕ) (g : List ℕ) → length xs ≤ length d → appended_of c g ≡ appended d 0 xs → octets_at c g 0 ≡ xs
 appended_part d xs c g h p =
-    let n : c ≡ length xs = appended_next d 0 xs c g p (omega arith) ∙ zero-add (length xs) in
-    let e : g ≡ xs ++ drop (0 + length xs) d = appended_room d 0 xs c g p ∙ put_fits d 0 xs (omega arith) in
-    ap₂ take n e ∙ take_at xs _ _ refl
+    let n : c ≡ 0 + length xs = appended_next d 0 xs c g p (omega arith) in
+    let k : length xs ≡ c = omega arith in
+    part_is c g 0 xs k (λ i l. ap (λ (s : List ℕ). get_or s (0 + i) 0) (appended_room d 0 xs c g p) ∙ get_d_put d 0 xs (omega arith) i (omega arith))
 
--- the offset after a run stays inside the room
-appended_inside : (d : List ℕ) (at : ℕ) (xs : List ℕ) (p : ℕ) (e : List ℕ) → at ≤ length d → appended_of p e ≡ appended d at xs → p ≤ length e
-unfolding next_offset
-appended_inside d at xs p e h l =
-    let n : p ≡ next_offset d at xs = ap (λ (z : Appended). z.next) l in
-    let m : length e ≡ length d = appended_length d at xs p e l in
-    split (leb (at + length xs) (length d))
-    (λ q. let t : at + length xs ≤ length d = leb-true _ _ q in let k : p ≡ at + length xs = simp q at n in omega arith)
-    (λ q. let k : p ≡ at = simp q at n in omega arith)
-
--- ---- three runs, one after the other, from the start of a room
-module _ (d xs ys zs : List ℕ) (a b c : ℕ) (e f g : List ℕ)
-    (p : appended_of a e ≡ appended d 0 xs) (q : appended_of b f ≡ appended e a ys) (r : appended_of c g ≡ appended f b zs) where
-  pub three_inside : c ≤ length g
-  three_inside =
-      let i = appended_inside d 0 xs a e (omega arith) p in
-      let j = appended_inside e a ys b f i q in
-      appended_inside f b zs c g j r
-
-  pub three_part : c ≡ length (take c g)
-  three_part = sym (length-take-le c g three_inside)
-
-  pub three : length xs + length ys + length zs ≤ length d → take c g ≡ xs ++ ys ++ zs
-  three h =
-      let m : length (xs ++ ys) ≡ length xs + length ys = length-append xs ys in
-      let n : length (xs ++ ys ++ zs) ≡ length (xs ++ ys) + length zs = length-append (xs ++ ys) zs in
-      let o : appended_of b f ≡ appended d 0 (xs ++ ys) = appended_after d 0 xs ys a b e f (omega arith) p q in
-      appended_part d (xs ++ ys ++ zs) c g (omega arith) (appended_after d 0 (xs ++ ys) zs b c f g (omega arith) o r)
+-- three runs, one after the other, from the start of a room
+pub three : (d xs ys zs : List ℕ) (a b c : ℕ) (e f g : List ℕ)
+    → appended_of a e ≡ appended d 0 xs → appended_of b f ≡ appended e a ys → appended_of c g ≡ appended f b zs
+    → length xs + length ys + length zs ≤ length d → octets_at c g 0 ≡ xs ++ ys ++ zs
+three d xs ys zs a b c e f g p q r h =
+    let m : length (xs ++ ys) ≡ length xs + length ys = length-append xs ys in
+    let n : length (xs ++ ys ++ zs) ≡ length (xs ++ ys) + length zs = length-append (xs ++ ys) zs in
+    let o : appended_of b f ≡ appended d 0 (xs ++ ys) = appended_after d 0 xs ys a b e f (omega arith) p q in
+    appended_part d (xs ++ ys ++ zs) c g (omega arith) (appended_after d 0 (xs ++ ys) zs b c f g (omega arith) o r)
 
 -- ---- the lengths of words: a number of 64 bits, a code, a credit
 pub word_most : (x m : ℕ) → length (word_of x m) ≤ 21

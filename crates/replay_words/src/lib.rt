@@ -3,21 +3,21 @@
 #![tactic(auto)]
 
 ghost use Rattle.std.specs.Prelude.{◌≡◌};
+ghost use Rattle.octets.specs.Runs.{octets_at};
 ghost use Rattle.replay_words.specs.Words.{word_of, appended, appended_of};
 
 mod digits;
 
-// A text appended at an offset.
+// The first `size` octets of a text, appended at an offset; an octet past the end of the text is 0.
 #[tactic(auto, using(crate::proofs::Words::text_not, crate::proofs::Words::text_appended))]
-pub fn put_text(text: &[u8], out: &mut [u8], at: usize) -> usize
-    ensures { appended_of result out.new ≡ appended out.old at text.now }
+pub fn put_text(text: &[u8], size: usize, out: &mut [u8], at: usize) -> usize
+    ensures { appended_of result out.new ≡ appended out.old at (octets_at size text.now 0) }
 {
-    if !octets::has_room(out.len(), at, text.len()) {
+    if !octets::has_room(out.len(), at, size) {
         return at;
     }
-    let end = at + text.len();
-    out[at..end].copy_from_slice(text);
-    end
+    octets_write::copy(text, 0, size, out, at);
+    at + size
 }
 
 // A number and the character after it, appended at an offset.

@@ -1,5 +1,5 @@
 -- Laws of the first row that has a number. Assumes nothing.
-use Prim.Native.Nat.{ℕ, ◌+◌, ◌-◌, ◌*◌, ◌≤◌, ◌<◌}
+use Prim.Native.Nat.{ℕ, ◌+◌, ◌*◌, ◌≤◌, ◌<◌}
 use mathlib.Core.Bool.{Bool, true, false, not, false≢true}
 use mathlib.Core.List.{List}
 use mathlib.Core.Path.{◌≡◌, sym, ap, ◌∙◌}
@@ -7,26 +7,22 @@ use native.Mathlib.Nat.{zero-add}
 use native.Mathlib.Numerals.{add-one}
 use native.Mathlib.Omega.{arith}
 use lib.Dec.{ltb, eqb}
-use lib.ListN.{take, drop}
 use borrow.Author.Tests.{lt-ltb, le-ltb, ltb-true, ltb-false, eq-eqb, ne_eqb, eqb-true, not-false}
 use Rattle.std.specs.Prelude.{if◌then◌else◌}
 use Rattle.lists.specs.Leading.{leading}
 use Rattle.octets.specs.Numbers.{number_at}
 use Rattle.lists.proofs.Leading.{leading_on, leading_stop, leading_before, leading_fails, leading_same}
 use Rattle.lists.proofs.Tests.{split}
-use Rattle.octets.proofs.Parts.{number_within}
 use Rattle.rows.specs.Rows.{Rows, table_of, number_octets, row_number, other_number, row_of, found_in}
 use Rattle.rows.specs.Rows.{Found}
 use Rattle.std.specs.Prelude.{Some, None}
 
 -- ---- the search as a loop: none of the first i of `used` rows of w octets has number x
 module _ (w : ℕ) (octets : List ℕ) (x used i : ℕ) (s : leading (other_number (table_of w octets) x) i ≡ i) where
-  -- row i is in use, and its number r is read from the part that the number stands in
-  module _ (h : i < used) (r : ℕ) (v : r ≡ number_at number_octets (take (w * i + number_octets - w * i) (drop (w * i) octets)) 0) where
+  -- row i is in use, and its number is r
+  module _ (h : i < used) (r : ℕ) (v : r ≡ number_at number_octets octets (w * i)) where
     number_is : row_number (table_of w octets) i ≡ r
-    number_is =
-        ap (number_at number_octets octets) (zero-add (w * i))
-        ∙ sym (v ∙ number_within number_octets (w * i + number_octets - w * i) (w * i) octets (omega arith))
+    number_is = ap (number_at number_octets octets) (zero-add (w * i)) ∙ sym v
 
     pub search_on : (r ≡ x → ⊥) → leading (other_number (table_of w octets) x) (i + 1) ≡ i + 1
     search_on d =

@@ -27,17 +27,37 @@ impl<'a> SpacedRows<'a> {
     }
 }
 
-// The first of `used` rows that has the number. All of these rows lie inside the run.
+// The number of a row that lies inside the run, read from a part of two octets.
+#[tactic(auto, using(octets::proofs::Parts::number_within))]
+fn number_in(rows: &[u8], at: usize) -> u16
+    requires { at + number_octets ≤ length rows.now }
+    ensures { result ≡ number_at number_octets rows.now at }
+{
+    octets::number_at(&rows[at..at + NUMBER_OCTETS], 0)
+}
+
+// The first of `used` rows that has the number, two rows a turn. All of these rows lie inside the run.
 fn search(rows: &[u8], width: usize, used: usize, number: u16) -> Option<usize>
     requires number_inside { number_octets ≤ width }
     requires rows_inside { width * used ≤ length rows.now }
     ensures { result ≡ found_in (table_of width rows.now) used number }
 {
-    for i in 0..used {
-        let at = width * i;
-        if octets::number_at::<u16>(&rows[at..at + NUMBER_OCTETS], 0) == number {
+    for pair in 0..used / 2 {
+        let i = 2 * pair;
+        if number_in(rows, width * i) == number {
             return Some(i);
         }
+        let next = i + 1;
+        if number_in(rows, width * next) == number {
+            return Some(next);
+        }
+    }
+    if used % 2 == 0 {
+        return None;
+    }
+    let last = used - 1;
+    if number_in(rows, width * last) == number {
+        return Some(last);
     }
     None
 }

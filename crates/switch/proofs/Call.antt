@@ -25,7 +25,7 @@ use Rattle.tables.specs.declared.Link.{Link}
 use Rattle.tables_rules.proofs.Rules.{account_past}
 use Rattle.std.specs.Prelude.{Ok, Err}
 use Rattle.switch_verdict.specs.Verdict.{Report, with_mask}
-use Rattle.filter.specs.Filter.{frame_code, port_code, route_to, routed}
+use Rattle.filter.specs.Filter.{frame_code, port_code, Route, route_to, routed}
 use Rattle.switch.specs.Call.{State, state_of, Call, After, after_of, accounts_in_use, account_held, Decided, kept, step_on, decided, stored, refused_with, by_link, settled, called}
 use Rattle.filter.proofs.Filter.{frame_zero, route_stopped, route_row}
 
@@ -122,3 +122,10 @@ module _ (g : Config) (s : State) (f : Call) where
     call_unused h =
         let a : Account = account_held g.accounts s l.account in
         call_kept a refl 10 (simp (sym (account_past l used a.terms.smax h)))
+
+-- ---- the decision on a link, stored; r is the call's route
+module _ (g : Config) (s : State) (f : Call) (r : Route) (q : r ≡ routed f.octets g.constant g.links g.count_of_links) where
+  module _ (l : Link) (h : r ≡ Ok l) (used : ℕ) (e : used ≡ accounts_in_use g s) where
+    pub call_stored : (a : Account) (d : Decided) → a ≡ account_held g.accounts s l.account
+        → d ≡ decided l used a (length f.octets) f.port f.time → stored s l.account d ≡ called g s f
+    call_stored a d p w = call_decided g s f l (sym h ∙ q) used e a p d w

@@ -14,7 +14,8 @@ use Rattle.codes.specs.declared.Refusal.{Refusal}
 use Rattle.account.specs.Step.{stepped}
 use Rattle.account.specs.declared.Ruling.{Ruling}
 use Rattle.switch_verdict.specs.declared.Verdict.{Verdict}
-use Rattle.switch_verdict.specs.Verdict.{Report, reported, refused, with_mask}
+use Rattle.switch_verdict.specs.declared.Verdict.TheVariants.{Refused}
+use Rattle.switch_verdict.specs.Verdict.{Report, reported, with_mask}
 use Rattle.filter.specs.Filter.{port_code, routed}
 use Rattle.filter.specs.Filter.{Route}
 use Rattle.std.specs.Prelude.{Ok, Err}
@@ -63,7 +64,7 @@ pub record Decided : Type 0 where
 
 -- a refusal keeps the account's credit and last time; the policing step gives new ones
 abbrev pub kept : ℕ → Account → Decided
-kept code a = record { says = refused code; credit = a.credit; last = a.last }
+kept code a = record { says = reported (Refused code); credit = a.credit; last = a.last }
 
 abbrev pub step_on : Link → Stepped → Decided
 step_on l q = record { says = with_mask l.mask q.says; credit = q.account.credit; last = q.account.last }
@@ -88,7 +89,7 @@ stored s a d = after_of d.says (state_of (set s.credits a d.credit) (set s.lasts
 -- ---- the call
 
 abbrev pub refused_with : ℕ → State → After
-refused_with code s = after_of (refused code) s
+refused_with code s = after_of (reported (Refused code)) s
 
 -- the call on a link: the link's account decides, and the decision is stored
 abbrev pub by_link : Config → State → Call → Link → After

@@ -105,5 +105,6 @@ pub fn frame_call(
     ensures { after_of (reported result) (state_of credits.new lasts.new)
         ≡ called (config_in tables.entry) (state_of credits.old lasts.old) (call_of frame.now ingress.port ingress.time) }
 {
-    verdict_on(frame, ingress, tables, credits, lasts).unwrap_or_else(Verdict::Refused)
+    let verdict = verdict_on(frame, ingress, tables, credits, lasts);
+    verdict.unwrap_or_else(|refusal| Verdict::Refused(refusal.into()))
 }

@@ -3,7 +3,6 @@ use Rattle.std.specs.Prelude
 use Rattle.std.specs.Prelude.{ℕ, eqb, Some, None}
 use Rattle.std.proofs.Math.Option.{Option, none, some}
 use Rattle.codes.specs.Codes
-use Rattle.codes.specs.Refused.{number_of}
 use Rattle.std.specs.Prelude.{if◌then◌else◌}
 use Rattle.account.specs.Step.{StepReport}
 use Rattle.switch_verdict.specs.declared.Verdict.{Verdict}
@@ -27,7 +26,7 @@ abbrev pub reported : Verdict → Report
 reported (Forwarded m c) = report Codes.success (some m) (some c)
 reported (Short c) = report Codes.short none (some c)
 reported (Late c) = report Codes.late none (some c)
-reported (Refused r) = refused (number_of r)
+reported (Refused n) = report n none none
 
 -- a verdict's code, and the mask and the credit that it carries
 abbrev pub verdict_code : Verdict → ℕ
@@ -37,13 +36,13 @@ abbrev pub verdict_mask : Verdict → Prelude.Option ℕ
 verdict_mask (Forwarded m c) = Some m
 verdict_mask (Short c) = None
 verdict_mask (Late c) = None
-verdict_mask (Refused r) = None
+verdict_mask (Refused n) = None
 
 abbrev pub verdict_credit : Verdict → Prelude.Option ℕ
 verdict_credit (Forwarded m c) = Some c
 verdict_credit (Short c) = Some c
 verdict_credit (Late c) = Some c
-verdict_credit (Refused r) = None
+verdict_credit (Refused n) = None
 
 -- the report of a policing step, on a link with this mask: a forwarded frame gets the mask beside its credit
 abbrev pub mask_for : ℕ → ℕ → Option ℕ → Option ℕ

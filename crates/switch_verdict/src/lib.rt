@@ -6,7 +6,6 @@ ghost use Rattle.account.specs.Step.{step_reported};
 ghost use Rattle.switch_verdict.specs.Verdict.{reported, with_mask, verdict_code, verdict_mask, verdict_credit};
 
 use account::Outcome;
-use codes::Refusal;
 
 // The answer of a frame call: forwarded with the output ports and the credit left, short or late with the credit held,
 // or refused with its code.
@@ -15,7 +14,7 @@ pub enum Verdict {
     Forwarded { mask: u32, credit: u32 },
     Short(u32),
     Late(u32),
-    Refused(Refusal),
+    Refused(u8),
 }
 
 impl Verdict {
@@ -27,7 +26,7 @@ impl Verdict {
             Outcome::Forwarded(credit) => Self::Forwarded { mask, credit },
             Outcome::Short(credit) => Self::Short(credit),
             Outcome::Late(credit) => Self::Late(credit),
-            Outcome::Refused(refusal) => Self::Refused(refusal),
+            Outcome::Refused(code) => Self::Refused(code),
         }
     }
 
@@ -39,7 +38,7 @@ impl Verdict {
             Self::Forwarded { .. } => codes::SUCCESS,
             Self::Short(_) => codes::SHORT,
             Self::Late(_) => codes::LATE,
-            Self::Refused(refusal) => refusal.into(),
+            Self::Refused(code) => code,
         }
     }
 

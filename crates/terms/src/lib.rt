@@ -47,12 +47,11 @@ fn bag_of(k: u8) -> u32
 fn charge(mode: u8, octets: u16) -> u32
     ensures { result ≡ charge mode octets }
 {
-    let added = if mode < LINE_BYTE_MODE {
-        0
+    if mode < LINE_BYTE_MODE {
+        octets as u32
     } else {
-        LINE_OCTETS
-    };
-    octets as u32 + added
+        octets as u32 + LINE_OCTETS
+    }
 }
 
 // Whether the mode charges a frame by its own octets.
@@ -69,7 +68,8 @@ impl Terms {
     pub fn are_good(self) -> bool
         ensures { result ≡ terms_good self }
     {
-        (frame::SMALLEST_FRAME..=frame::LARGEST_FRAME).contains(&(self.smax as usize))
+        frame::SMALLEST_FRAME <= self.smax as usize
+            && self.smax as usize <= frame::LARGEST_FRAME
             && self.k <= LARGEST_K
             && self.jitter <= LARGEST_JITTER
             && self.mode <= LINE_FRAME_MODE

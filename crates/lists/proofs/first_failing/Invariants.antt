@@ -1,5 +1,7 @@
-use Rattle.std.proofs.Common.{ℕ, true, ◌<◌}
+use Rattle.std.proofs.Common.{◌≡◌}
+use Rattle.lists.specs.Leading.{leading}
 use Rattle.lists.proofs.first_failing.Given as goal
 
+-- all items so far pass
 abbrev pub invariant-loop-i : goal.invariant-loop-i
-invariant-loop-i g l = (k : ℕ) → k < l.i → goal.F-post g l.passes k true
+invariant-loop-i g l = leading (g.T.Test.passes l.test) l.i ≡ l.i

@@ -4,7 +4,7 @@ use Rattle.replay_answer.proofs.Answering.{replied_long, replied_copied}
 use Rattle.replay_answer.proofs.answer.Goals as goal
 
 pub returns-in_default : goal.returns-in_default
-returns-in_default c = replied_long _ _ _ _ _ c.args.logged c.copy.ensures (omega arith) (omega (arith, c.in_default.ensures.lookup))
+returns-in_default c = rw c.into.ensures (replied_long _ _ _ _ _ c.args.logged c.copy.ensures (omega arith) (omega (arith, c.in_default.ensures.lookup)))
 
 pub returns : goal.returns
 returns c =

@@ -2,15 +2,9 @@
 use mathlib.Core.Path.{◌∙◌}
 use native.Mathlib.Omega.{arith}
 use Rattle.replay_text.specs.Text.{space, frame_line}
-use Rattle.replay_words.proofs.Words.{three, three_inside, three_part, line_appended, word_most, word_code}
+use Rattle.replay_words.proofs.Words.{three, line_appended, word_most, word_code}
 use Rattle.replay_text.proofs.Lines.{line_named, line_fits}
 use Rattle.replay_text.proofs.put_line.Goals as goal
-
-pub slice_bounds-line-end : goal.slice_bounds-line-end
-slice_bounds-line-end c = three_inside _ _ _ _ _ _ _ _ _ _ c.put_word-a.ensures c.put_word-b.ensures c.put_credit-c.ensures.word_put
-
-pub slice_bounds-put_text-end : goal.slice_bounds-put_text-end
-slice_bounds-put_text-end c = three_part _ _ _ _ _ _ _ _ _ _ c.put_word-a.ensures c.put_word-b.ensures c.put_credit-c.ensures.word_put
 
 pub returns : goal.returns
 unfolding frame_line
