@@ -47,8 +47,8 @@ macro_rules! export {
 
 /// All calls of `include/ashthulgo.h`.
 pub fn exports() -> Vec<Export> {
-    // A search looks at one row a turn. Reading, loading and writing have loops that turn for each account or each link.
-    let of_search = |rows: usize| rows as u64 - 1;
+    // A search looks at two rows a turn. Reading, loading and writing have loops that turn for each account or each link.
+    let of_search = |rows: usize| rows as u64 / 2 - 1;
     let of_image = MAX_LINKS as u64 + 1;
     vec![
         export!(ashthulgo_read_frame, 0, read_frame),
