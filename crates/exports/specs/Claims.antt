@@ -48,7 +48,8 @@ StepFigures =
     × (step_done_of (stepped (OutcomeOf.Short credit) a) ≡ step_done (step_numbers 9 credit) a)
     × (step_done_of (stepped (OutcomeOf.Late credit) a) ≡ step_done (step_numbers 8 credit) a)
     × (step_done_of (stepped (OutcomeOf.Refused code) a) ≡ step_done (step_numbers code 0) a))
-    × ((r : Refusal) (a : Account) → step_done_of (stepped (OutcomeOf.Refused (number_of r)) a) ≡ step_done (step_numbers (number_of r) 0) a)
+    × ((r : Refusal) (a : Account)
+    → step_done_of (stepped (OutcomeOf.Refused (number_of r)) a) ≡ step_done (step_numbers (number_of r) 0) a)
 
 -- ---- the frame call: 0 with mask and credit, 9 and 8 with their credit and mask 0, any other code with zeros; and the
 -- state after the call
@@ -64,7 +65,8 @@ CallFigures =
     × (call_done_of (after_of (reported (VerdictOf.Short credit)) s) ≡ call_done (call_numbers 9 0 credit) s)
     × (call_done_of (after_of (reported (VerdictOf.Late credit)) s) ≡ call_done (call_numbers 8 0 credit) s)
     × (call_done_of (after_of (reported (VerdictOf.Refused code)) s) ≡ call_done (call_numbers code 0 0) s))
-    × ((r : Refusal) (s : State) → call_done_of (after_of (reported (VerdictOf.Refused (number_of r))) s) ≡ call_done (call_numbers (number_of r) 0 0) s)
+    × ((r : Refusal) (s : State)
+    → call_done_of (after_of (reported (VerdictOf.Refused (number_of r))) s) ≡ call_done (call_numbers (number_of r) 0 0) s)
 
 -- ---- reading and loading an image
 abbrev pub ImageNumbers : Type 0
