@@ -45,7 +45,7 @@ impl Test for GoodLinks<'_> {
 pub(crate) fn count_accounts(image: &[u8]) -> u16
     ensures { result ≡ good_accounts image.now }
 {
-    lists::first_failing(image_layout::MAX_ACCOUNTS, &GoodAccounts { image })
+    lists::count_leading(image_layout::MAX_ACCOUNTS, &GoodAccounts { image })
 }
 
 // The number of good links after the accounts, up to the first field that is no link or is refused; 0 without accounts.
@@ -56,7 +56,7 @@ pub(crate) fn count_links(image: &[u8], accounts: u16) -> u16
     if accounts == 0 {
         return 0;
     }
-    lists::first_failing(image_layout::MAX_LINKS, &GoodLinks { image, accounts })
+    lists::count_leading(image_layout::MAX_LINKS, &GoodLinks { image, accounts })
 }
 
 // The settings that the image names, if the field after so many accounts and links is a good end and the image ends with

@@ -58,14 +58,14 @@ impl Test for GoodLinks<'_> {
 fn bad_account(accounts: SpacedRows, n: u16) -> u16
     ensures { result ≡ leading (account_good (rows_of accounts.entry)) n }
 {
-    lists::first_failing(n, &GoodAccounts { accounts })
+    lists::count_leading(n, &GoodAccounts { accounts })
 }
 
 // The first of m link rows with a bad value, m where no row has one.
 fn bad_link(accounts: SpacedRows, n: u16, links: SpacedRows, m: u16) -> u16
     ensures { result ≡ leading (link_good (rows_of accounts.entry) (rows_of links.entry) n) m }
 {
-    lists::first_failing(m, &GoodLinks { accounts, n, links })
+    lists::count_leading(m, &GoodLinks { accounts, n, links })
 }
 
 // The length of the image, if no value is bad; otherwise the fault's offset is the one that the first bad field would have.

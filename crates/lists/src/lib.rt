@@ -5,6 +5,10 @@
 ghost use Rattle.std.specs.Prelude.{ℕ, Bool, ◌≡◌};
 ghost use Rattle.lists.specs.Leading.{leading};
 
+mod closures;
+
+pub use closures::first_failing;
+
 // A test of items by their index.
 pub trait Test {
     // Whether the item passes.
@@ -15,7 +19,7 @@ pub trait Test {
 }
 
 // The first of n items that fails a test, n where all items pass.
-pub fn first_failing<T: Test>(n: u16, test: &T) -> u16
+pub fn count_leading<T: Test>(n: u16, test: &T) -> u16
     ensures { result ≡ leading (T.passes test.now) n }
 {
     for i in 0..n {

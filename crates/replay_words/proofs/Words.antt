@@ -4,9 +4,11 @@ use mathlib.Core.Path.{◌≡◌, sym, ap, ap₂, ◌∙◌}
 use mathlib.Core.Bool.{Bool, true, false}
 use mathlib.Core.List.{List, [], ◌∷◌, ◌++◌}
 use native.Mathlib.Omega.{arith}
+use Rattle.lists.proofs.Tests.{split}
 use lib.Dec.{leb}
-use lib.ListN.{length, get_or, set, length-append}
-use borrow.Author.Tests.{le-leb, lt-leb}
+use lib.ListN.{length, get_or, take, set, length-append}
+use lib.Seq.{length-take-le}
+use borrow.Author.Tests.{le-leb, lt-leb, leb-true}
 use Rattle.octets.specs.Runs.{octets_at, put}
 use Rattle.octets.proofs.Runs.{put_no_room, put_after, put_next, length_put, get_d_put}
 use Rattle.octets.proofs.Parts.{length_part, part_is}
@@ -113,6 +115,28 @@ three d xs ys zs a b c e f g p q r h =
     let n : length (xs ++ ys ++ zs) ≡ length (xs ++ ys) + length zs = length-append (xs ++ ys) zs in
     let o : appended_of b f ≡ appended d 0 (xs ++ ys) = appended_after d 0 xs ys a b e f (omega arith) p q in
     appended_part d (xs ++ ys ++ zs) c g (omega arith) (appended_after d 0 (xs ++ ys) zs b c f g (omega arith) o r)
+
+-- the offset after a run stays inside the room, whether the run fits or not
+appended_inside : (d : List ℕ) (at : ℕ) (xs : List ℕ) (p : ℕ) (e : List ℕ) → at ≤ length d → appended_of p e ≡ appended d at xs → p ≤ length e
+unfolding next_offset
+appended_inside d at xs p e h l =
+    let n : p ≡ next_offset d at xs = ap (λ (z : Appended). z.next) l in
+    let m : length e ≡ length d = appended_length d at xs p e l in
+    split (leb (at + length xs) (length d))
+    (λ q. let t : at + length xs ≤ length d = leb-true _ _ q in let k : p ≡ at + length xs = simp q at n in omega arith)
+    (λ q. let k : p ≡ at = simp q at n in omega arith)
+
+-- and so does the offset after three runs
+module _ (d xs ys zs : List ℕ) (a b c : ℕ) (e f g : List ℕ)
+    (p : appended_of a e ≡ appended d 0 xs) (q : appended_of b f ≡ appended e a ys) (r : appended_of c g ≡ appended f b zs) where
+  pub three_inside : c ≤ length g
+  three_inside =
+      let i = appended_inside d 0 xs a e (omega arith) p in
+      let j = appended_inside e a ys b f i q in
+      appended_inside f b zs c g j r
+
+  pub three_part : c ≡ length (take c g)
+  three_part = sym (length-take-le c g three_inside)
 
 -- ---- the lengths of words: a number of 64 bits, a code, a credit
 pub word_most : (x m : ℕ) → length (word_of x m) ≤ 21

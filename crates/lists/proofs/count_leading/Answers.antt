@@ -1,7 +1,7 @@
--- `first_failing`: the count goes on at an item that passes, and stops at one that fails. Assumes nothing.
+-- `count_leading`: the count goes on at an item that passes, and stops at one that fails. Assumes nothing.
 use native.Mathlib.Numerals.{add-one}
 use Rattle.lists.proofs.Leading.{leading_zero, count_stops, count_goes_on}
-use Rattle.lists.proofs.first_failing.Goals as goal
+use Rattle.lists.proofs.count_leading.Goals as goal
 
 pub loop-i-init : goal.loop-i-init
 loop-i-init g c = leading_zero _

@@ -1,6 +1,6 @@
 use Rattle.std.proofs.Common.{◌≡◌}
 use Rattle.lists.specs.Leading.{leading}
-use Rattle.lists.proofs.first_failing.Given as goal
+use Rattle.lists.proofs.count_leading.Given as goal
 
 -- all items so far pass
 abbrev pub invariant-loop-i : goal.invariant-loop-i
